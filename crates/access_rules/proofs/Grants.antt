@@ -17,14 +17,20 @@ pub record IsCut (bs piece after : List ℕ) : Type 0 where
   pub first : piece ≡ before_first is_comma bs
   pub second : after ≡ after_first is_comma bs
 
-pub cut_is : (bs : List ℕ) (r : Option (Bor (List ℕ) × Bor (List ℕ))) → IsSplitOnceResult 44 bs r → (x : Bor (List ℕ) × Bor (List ℕ)) → r ≡ Some x → IsCut bs x.0.now x.1.now
+pub cut_is : (bs : List ℕ) (r : Option (Bor (List ℕ) × Bor (List ℕ))) → IsSplitOnceResult 44 bs r → (x : Bor (List ℕ) × Bor (List ℕ)) → r ≡ Some x
+    → IsCut bs x.0.now x.1.now
 cut_is bs r split x is =
-    let cut = subst (λ o. MatchOption o (position_or_len is_comma bs ≡ length bs) (λ x. (position_or_len is_comma bs < length bs) × (x.0.now ≡ before_first is_comma bs) × (x.1.now ≡ after_first is_comma bs))) is (split_once_first 44 bs r split (omega arith)) in
+    let cut = subst (λ o. MatchOption o (position_or_len is_comma bs ≡ length bs)
+    (λ x. (position_or_len is_comma bs < length bs) × (x.0.now ≡ before_first is_comma bs) × (x.1.now ≡ after_first is_comma bs))) is
+    (split_once_first 44 bs r split (omega arith)) in
     record { within = cut.0; first = cut.1; second = cut.2 }
 
 pub whole_is : (bs : List ℕ) (r : Option (Bor (List ℕ) × Bor (List ℕ))) → IsSplitOnceResult 44 bs r → r ≡ None → pieces bs ≡ bs ∷ []
 whole_is bs r split is =
-    pieces_whole bs (subst (λ o. MatchOption o (position_or_len is_comma bs ≡ length bs) (λ x. (position_or_len is_comma bs < length bs) × (x.0.now ≡ before_first is_comma bs) × (x.1.now ≡ after_first is_comma bs))) is (split_once_first 44 bs r split (omega arith)))
+    pieces_whole bs (subst
+    (λ o. MatchOption o (position_or_len is_comma bs ≡ length bs)
+    (λ x. (position_or_len is_comma bs < length bs) × (x.0.now ≡ before_first is_comma bs) × (x.1.now ≡ after_first is_comma bs))) is
+    (split_once_first 44 bs r split (omega arith)))
 
 module _ (bs piece after : List ℕ) (cut : IsCut bs piece after) where
   pub cut_pieces : pieces bs ≡ piece ∷ pieces after
@@ -39,7 +45,9 @@ module _ (bs piece after : List ℕ) (cut : IsCut bs piece after) where
   pub cut_utf8 : IsUtf8 bs → IsUtf8 after
   cut_utf8 text =
       let comma : get_or bs (position_or_len is_comma bs) 0 ≡ 44 = eqb-true _ 44 (passes_at_first is_comma bs 0 cut.within) in
-      subst IsUtf8 (sym cut.second) (IsUtf8-drop bs (position_or_len is_comma bs + 1) text (IsCharBoundary-after_ascii bs (position_or_len is_comma bs) text cut.within (omega (arith, comma))))
+      subst IsUtf8 (sym cut.second)
+      (IsUtf8-drop bs (position_or_len is_comma bs + 1) text
+      (IsCharBoundary-after_ascii bs (position_or_len is_comma bs) text cut.within (omega (arith, comma))))
 
 -- ---- what is read
 module _ (text : List ℕ) (earlier : List Grant) (place : ℕ) (rest piece : List ℕ) (ps : List (List ℕ)) (o : Option Grant)
@@ -52,8 +60,11 @@ module _ (text : List ℕ) (earlier : List Grant) (place : ℕ) (rest piece : Li
       fails is = ap (λ o. with_grant o place (λ grant. grants_from (earlier ++ grant ∷ []) (place + length piece + 1) ps)) is
 
   -- one that does is followed by the others
-  pub goes_on : (grant : Grant) (more : List Grant) → o ≡ Some grant → more ≡ earlier ++ grant ∷ [] → grants_of text ≡ grants_from more (place + length piece + 1) ps
-  goes_on grant more some pushed = read ∙ ap (λ l. grants_from earlier place l) cut ∙ passes (sym new ∙ some) ∙ ap (λ gs. grants_from gs (place + length piece + 1) ps) (sym pushed)
+  pub goes_on : (grant : Grant) (more : List Grant) → o ≡ Some grant → more ≡ earlier ++ grant ∷ []
+      → grants_of text ≡ grants_from more (place + length piece + 1) ps
+  goes_on grant more some pushed =
+      read ∙ ap (λ l. grants_from earlier place l) cut ∙ passes (sym new ∙ some) ∙ ap (λ gs. grants_from gs (place + length piece + 1) ps) (sym pushed)
     where
-      passes : if_new earlier (grant_of piece) ≡ Some grant → grants_from earlier place (piece ∷ ps) ≡ grants_from (earlier ++ grant ∷ []) (place + length piece + 1) ps
+      passes : if_new earlier (grant_of piece) ≡ Some grant
+          → grants_from earlier place (piece ∷ ps) ≡ grants_from (earlier ++ grant ∷ []) (place + length piece + 1) ps
       passes is = ap (λ o. with_grant o place (λ grant. grants_from (earlier ++ grant ∷ []) (place + length piece + 1) ps)) is

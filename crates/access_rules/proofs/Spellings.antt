@@ -1,5 +1,6 @@
 -- What is read of a text that is spelled, and what spells a text that is read.
-use Rattle.std.proofs.Common.{◌≡◌, ◌≢◌, ℕ, ◌+◌, ◌<◌, ◌≤◌, Bool, true, false, cond, not, ◌&&◌, ◌||◌, ◌==◌, nat_le, List, [], ◌∷◌, ◌++◌, length, take, drop, get_or, map, codes, refl, sym, ◌∙◌, ap, subst, arith, eqb-true, append-nil, append_assoc, inl, inr, ◌⊎◌}
+use Rattle.std.proofs.Common.{◌≡◌, ◌≢◌, ℕ, ◌+◌, ◌<◌, ◌≤◌, Bool, true, false, cond, not, ◌&&◌, ◌||◌, ◌==◌, nat_le, List, [], ◌∷◌, ◌++◌, length, take}
+use Rattle.std.proofs.Common.{drop, get_or, map, codes, refl, sym, ◌∙◌, ap, subst, arith, eqb-true, append-nil, append_assoc, inl, inr, ◌⊎◌}
 use Rattle.std.specs.Prelude.{Option, None, Some, Result, Ok}
 use Rattle.std.specs.List.{position_or_len, before_first, after_first, list_any, list_all}
 use Rattle.std.specs.Char.{is_ascii_alphabetic}
@@ -12,7 +13,8 @@ use Rattle.script_lang.specs.Words.{is_word}
 use Rattle.access_rules.specs.declared.policy.Role.{Role}
 use Rattle.access_rules.specs.declared.policy.Role.TheVariants.{Reader, Writer, Admin}
 use Rattle.access_rules.specs.declared.policy.Grant.{Grant}
-use Rattle.access_rules.specs.Reading.{is_comma, is_colon, is_at_sign, before, pieces, writer_of, role_of, granted, grant_of, has_user, if_new, with_grant, grants_from, grants_of}
+use Rattle.access_rules.specs.Reading.{is_comma, is_colon, is_at_sign, before, pieces, writer_of, role_of, granted, grant_of, has_user, if_new}
+use Rattle.access_rules.specs.Reading.{with_grant, grants_from, grants_of}
 use Rattle.access_rules.specs.Laws.{role_word, spelled, joined, IsRole, AreGrants}
 
 clash : {x : Bool} → x ≡ false → x ≡ true → ⊥
@@ -75,7 +77,8 @@ role_read Admin is = refl
 grant_read : (grant : Grant) → is_name grant.user ≡ true → IsRole grant.role → grant_of (spelled grant) ≡ Some grant
 grant_read grant named role =
     let clear : list_any is_colon grant.user ≡ false = name_without 58 refl refl grant.user named in
-    (λ i. granted (first_is is_colon grant.user clear 58 (role_word grant.role) refl i) (role_of (second_is is_colon grant.user clear 58 (role_word grant.role) refl i)))
+    (λ i. granted (first_is is_colon grant.user clear 58 (role_word grant.role) refl i)
+    (role_of (second_is is_colon grant.user clear 58 (role_word grant.role) refl i)))
     ∙ ap (granted grant.user) (role_read grant.role role)
     ∙ ap (λ t. cond t (Some grant) None) named
 
@@ -86,7 +89,8 @@ role_clear (Writer (Some branch)) is = name_without 44 refl refl branch is
 role_clear Admin is = refl
 
 spelled_clear : (grant : Grant) → is_name grant.user ≡ true → IsRole grant.role → list_any is_comma (spelled grant) ≡ false
-spelled_clear grant named role = without_both is_comma grant.user (58 ∷ role_word grant.role) (name_without 44 refl refl grant.user named) (role_clear grant.role role)
+spelled_clear grant named role =
+    without_both is_comma grant.user (58 ∷ role_word grant.role) (name_without 44 refl refl grant.user named) (role_clear grant.role role)
 
 -- ---- all grants are read
 pieces_one : (piece : List ℕ) → list_any is_comma piece ≡ false → pieces piece ≡ piece ∷ []
@@ -101,7 +105,8 @@ pieces_more (b ∷ bs) rest none =
     let both = neither (is_comma b) (list_any is_comma bs) none in
     ap (λ t. cond t ([] ∷ pieces (bs ++ 44 ∷ rest)) (before b (pieces (bs ++ 44 ∷ rest)))) both.0 ∙ ap (before b) (pieces_more bs rest both.1)
 
-pieces_joined : (earlier : List Grant) (grant : Grant) (grants : List Grant) → AreGrants earlier (grant ∷ grants) → pieces (joined (map spelled (grant ∷ grants))) ≡ map spelled (grant ∷ grants)
+pieces_joined : (earlier : List Grant) (grant : Grant) (grants : List Grant) → AreGrants earlier (grant ∷ grants)
+    → pieces (joined (map spelled (grant ∷ grants))) ≡ map spelled (grant ∷ grants)
 pieces_joined earlier grant [] are = pieces_one (spelled grant) (spelled_clear grant are.0 are.1)
 pieces_joined earlier grant (next ∷ grants) are =
     pieces_more (spelled grant) (joined (map spelled (next ∷ grants))) (spelled_clear grant are.0 are.1)
@@ -111,7 +116,8 @@ not_true : (b : Bool) → b ≢ true → b ≡ false
 not_true true is = absurd (is refl)
 not_true false is = refl
 
-all_read : (earlier : List Grant) (place : ℕ) (grants : List Grant) → AreGrants earlier grants → grants_from earlier place (map spelled grants) ≡ Ok (earlier ++ grants)
+all_read : (earlier : List Grant) (place : ℕ) (grants : List Grant) → AreGrants earlier grants
+    → grants_from earlier place (map spelled grants) ≡ Ok (earlier ++ grants)
 all_read earlier place [] are = ap Ok (sym (append-nil earlier))
 all_read earlier place (grant ∷ grants) are =
     let further : Grant → Result (List Grant) ℕ = λ g. grants_from (earlier ++ g ∷ []) (place + length (spelled grant) + 1) (map spelled grants) in
@@ -131,7 +137,8 @@ order m n = grind arith
 -- where a byte is sought and something stands after it, the text is cut there
 cut_at : (p : ℕ → Bool) (k : ℕ) → ((b : ℕ) → p b ≡ true → b ≡ k) → (xs : List ℕ) → after_first p xs ≢ [] → xs ≡ before_first p xs ++ k ∷ after_first p xs
 cut_at p k only xs some = elim (order (position_or_len p xs) (length xs)) [
-  | inl low ↦ split_at_first p xs k low ∙ ap (λ b. before_first p xs ++ b ∷ after_first p xs) (only (get_or xs (position_or_len p xs) k) (passes_at_first p xs k low))
+  | inl low ↦ split_at_first p xs k low
+      ∙ ap (λ b. before_first p xs ++ b ∷ after_first p xs) (only (get_or xs (position_or_len p xs) k) (passes_at_first p xs k low))
   | inr high ↦ absurd (some (drop_all (position_or_len p xs + 1) xs (omega (arith, high))))
 ]
 
@@ -154,7 +161,8 @@ writer_back word role is = by (is_word (before_first is_at_sign word) (codes "wr
     by true first false named is = absurd cc
     by true first true named is =
         let same : Writer (Some (after_first is_at_sign word)) ≡ role = cc in
-        let cut : word ≡ before_first is_at_sign word ++ 64 ∷ after_first is_at_sign word = cut_at is_at_sign 64 (λ b here. eqb-true b 64 here) word (some_name (after_first is_at_sign word) named) in
+        let cut : word ≡ before_first is_at_sign word ++ 64 ∷ after_first is_at_sign word =
+        cut_at is_at_sign 64 (λ b here. eqb-true b 64 here) word (some_name (after_first is_at_sign word) named) in
         let front : before_first is_at_sign word ≡ codes "writer" = text_equality.exact (before_first is_at_sign word) (codes "writer") first in
         subst (λ r. Spells word r) same (cut ∙ ap (λ (l : List ℕ). l ++ 64 ∷ after_first is_at_sign word) front, named)
 
@@ -162,9 +170,12 @@ role_back : (word : List ℕ) (role : Role) → role_of word ≡ Some role → S
 role_back word role is = by (is_word word (codes "reader")) refl (is_word word (codes "writer")) refl (is_word word (codes "admin")) refl is
   where
     by : (a : Bool) → is_word word (codes "reader") ≡ a → (b : Bool) → is_word word (codes "writer") ≡ b → (c : Bool) → is_word word (codes "admin") ≡ c
-        → cond a (Some Reader) (cond b (Some (Writer None)) (cond c (Some Admin) (writer_of (before_first is_at_sign word) (after_first is_at_sign word)))) ≡ Some role → Spells word role
+        → cond a (Some Reader)
+        (cond b (Some (Writer None)) (cond c (Some Admin) (writer_of (before_first is_at_sign word) (after_first is_at_sign word)))) ≡ Some role
+        → Spells word role
     by true here b two c three is = let same : Reader ≡ role = cc in subst (λ r. Spells word r) same (text_equality.exact word (codes "reader") here, tt)
-    by false one true here c three is = let same : Writer None ≡ role = cc in subst (λ r. Spells word r) same (text_equality.exact word (codes "writer") here, tt)
+    by false one true here c three is = let same : Writer None ≡ role = cc
+        in subst (λ r. Spells word r) same (text_equality.exact word (codes "writer") here, tt)
     by false one false two true here is = let same : Admin ≡ role = cc in subst (λ r. Spells word r) same (text_equality.exact word (codes "admin") here, tt)
     by false one false two false three is = writer_back word role is
 
@@ -176,16 +187,19 @@ record IsSpelled (piece : List ℕ) (grant : Grant) : Type 0 where
 grant_back : (piece : List ℕ) (grant : Grant) → grant_of piece ≡ Some grant → IsSpelled piece grant
 grant_back piece grant is = by (role_of (after_first is_colon piece)) refl (is_name (before_first is_colon piece)) refl is
   where
-    by : (o : Option Role) → role_of (after_first is_colon piece) ≡ o → (b : Bool) → is_name (before_first is_colon piece) ≡ b → granted (before_first is_colon piece) o ≡ Some grant → IsSpelled piece grant
+    by : (o : Option Role) → role_of (after_first is_colon piece) ≡ o → (b : Bool) → is_name (before_first is_colon piece) ≡ b
+        → granted (before_first is_colon piece) o ≡ Some grant → IsSpelled piece grant
     by None none b named is = absurd cc
     by (Some role) some b named is = on b named (ap (λ t. cond t (Some (record { user = before_first is_colon piece; role = role })) None) (sym named) ∙ is)
       where
-        on : (b : Bool) → is_name (before_first is_colon piece) ≡ b → cond b (Some (record { user = before_first is_colon piece; role = role })) None ≡ Some grant → IsSpelled piece grant
+        on : (b : Bool) → is_name (before_first is_colon piece) ≡ b
+            → cond b (Some (record { user = before_first is_colon piece; role = role })) None ≡ Some grant → IsSpelled piece grant
         on false named is = absurd cc
         on true named is =
             let made : Grant = record { user = before_first is_colon piece; role = role } in
             let same : made ≡ grant = cc in
-            let cut : piece ≡ before_first is_colon piece ++ 58 ∷ after_first is_colon piece = cut_at is_colon 58 (λ b here. eqb-true b 58 here) piece (some_role (after_first is_colon piece) role some) in
+            let cut : piece ≡ before_first is_colon piece ++ 58 ∷ after_first is_colon piece =
+            cut_at is_colon 58 (λ b here. eqb-true b 58 here) piece (some_role (after_first is_colon piece) role some) in
             let back : Spells (after_first is_colon piece) role = role_back (after_first is_colon piece) role some in
             subst (λ g. IsSpelled piece g) same (record {
               word = cut ∙ ap (λ (l : List ℕ). before_first is_colon piece ++ 58 ∷ l) back.0;
@@ -204,12 +218,16 @@ all_back : (earlier : List Grant) (place : ℕ) (ps : List (List ℕ)) (grants :
 all_back earlier place [] grants is = let same : earlier ≡ grants = cc in record { new = []; all = sym same ∙ sym (append-nil earlier); words = refl; are = tt }
 all_back earlier place (piece ∷ ps) grants is = by (grant_of piece) refl is (λ g. all_back (earlier ++ g ∷ []) (place + length piece + 1) ps grants)
   where
-    by : (o : Option Grant) → grant_of piece ≡ o → with_grant (if_new earlier o) place (λ grant. grants_from (earlier ++ grant ∷ []) (place + length piece + 1) ps) ≡ Ok grants
-        → ((g : Grant) → grants_from (earlier ++ g ∷ []) (place + length piece + 1) ps ≡ Ok grants → IsBack (earlier ++ g ∷ []) grants ps) → IsBack earlier grants (piece ∷ ps)
+    by : (o : Option Grant) → grant_of piece ≡ o
+        → with_grant (if_new earlier o) place (λ grant. grants_from (earlier ++ grant ∷ []) (place + length piece + 1) ps) ≡ Ok grants
+        → ((g : Grant) → grants_from (earlier ++ g ∷ []) (place + length piece + 1) ps ≡ Ok grants → IsBack (earlier ++ g ∷ []) grants ps)
+        → IsBack earlier grants (piece ∷ ps)
     by None none is further = absurd cc
     by (Some g) some is further = on (has_user earlier g.user) refl is
       where
-        on : (b : Bool) → has_user earlier g.user ≡ b → with_grant (cond b None (Some g)) place (λ grant. grants_from (earlier ++ grant ∷ []) (place + length piece + 1) ps) ≡ Ok grants → IsBack earlier grants (piece ∷ ps)
+        on : (b : Bool) → has_user earlier g.user ≡ b
+            → with_grant (cond b None (Some g)) place (λ grant. grants_from (earlier ++ grant ∷ []) (place + length piece + 1) ps) ≡ Ok grants
+            → IsBack earlier grants (piece ∷ ps)
         on true has is = absurd cc
         on false has is =
             let back = further g is in
@@ -232,7 +250,12 @@ has_piece (b ∷ bs) = by (is_comma b) refl (has_piece bs)
   where
     by : (t : Bool) → is_comma b ≡ t → HasPiece bs → HasPiece (b ∷ bs)
     by true is more = record { piece = []; others = pieces bs; is = ap (λ t. cond t ([] ∷ pieces bs) (before b (pieces bs))) is }
-    by false is more = record { piece = b ∷ more.piece; others = more.others; is = ap (λ t. cond t ([] ∷ pieces bs) (before b (pieces bs))) is ∙ ap (before b) more.is }
+    by false is more = record {
+      piece = b ∷ more.piece;
+      others = more.others;
+      is =
+          ap (λ t. cond t ([] ∷ pieces bs) (before b (pieces bs))) is ∙ ap (before b) more.is;
+    }
 
 before_joined : (b : ℕ) (piece : List ℕ) (ps : List (List ℕ)) → joined ((b ∷ piece) ∷ ps) ≡ b ∷ joined (piece ∷ ps)
 before_joined b piece [] = refl
@@ -245,7 +268,8 @@ joined_pieces (b ∷ bs) = by (is_comma b) refl (joined_pieces bs) (has_piece bs
     by : (t : Bool) → is_comma b ≡ t → bs ≡ joined (pieces bs) → HasPiece bs → b ∷ bs ≡ joined (pieces (b ∷ bs))
     by true is more has =
         let comma : b ≡ 44 = eqb-true b 44 is in
-        (λ i. comma i ∷ more i) ∙ ap (λ ps. 44 ∷ joined ps) has.is ∙ ap (λ ps. joined ([] ∷ ps)) (sym has.is) ∙ ap (λ t. joined (cond t ([] ∷ pieces bs) (before b (pieces bs)))) (sym is)
+        (λ i. comma i ∷ more i) ∙ ap (λ ps. 44 ∷ joined ps) has.is ∙ ap (λ ps. joined ([] ∷ ps)) (sym has.is)
+        ∙ ap (λ t. joined (cond t ([] ∷ pieces bs) (before b (pieces bs)))) (sym is)
     by false is more has =
         ap (λ l. b ∷ l) more ∙ ap (λ ps. b ∷ joined ps) has.is ∙ sym (before_joined b has.piece has.others) ∙ ap (λ ps. joined (before b ps)) (sym has.is)
         ∙ ap (λ t. joined (cond t ([] ∷ pieces bs) (before b (pieces bs)))) (sym is)
@@ -254,7 +278,8 @@ no_grants : (new : List Grant) (piece : List ℕ) (ps : List (List ℕ)) → pie
 no_grants [] piece ps is = absurd cc
 no_grants (g ∷ new) piece ps is = omega arith
 
-pub policies_spelled : (text : List ℕ) (grants : List Grant) → grants_of text ≡ Ok grants → (0 < length grants) × AreGrants [] grants × (text ≡ joined (map spelled grants))
+pub policies_spelled : (text : List ℕ) (grants : List Grant) → grants_of text ≡ Ok grants
+    → (0 < length grants) × AreGrants [] grants × (text ≡ joined (map spelled grants))
 policies_spelled text grants is =
     let back : IsBack [] grants (pieces text) = all_back [] 0 (pieces text) grants is in
     let has : HasPiece text = has_piece text in

@@ -33,7 +33,8 @@ IsRole Admin = Unit {0}
 -- each grant is of a user of the form who has none before
 abbrev pub AreGrants : List Grant → List Grant → Type 0
 AreGrants earlier [] = Unit {0}
-AreGrants earlier (grant ∷ grants) = (is_name grant.user ≡ true) × IsRole grant.role × (has_user earlier grant.user ≢ true) × AreGrants (earlier ++ grant ∷ []) grants
+AreGrants earlier (grant ∷ grants) =
+    (is_name grant.user ≡ true) × IsRole grant.role × (has_user earlier grant.user ≢ true) × AreGrants (earlier ++ grant ∷ []) grants
 
 -- each list of such grants, one at least, is read from its spelling
 abbrev pub PoliciesAreRead : Type 0
@@ -41,4 +42,5 @@ PoliciesAreRead = (grants : List Grant) → 0 < length grants → AreGrants [] g
 
 -- and each text that is read spells what it gives
 abbrev pub PoliciesAreSpelled : Type 0
-PoliciesAreSpelled = (text : List ℕ) (grants : List Grant) → grants_of text ≡ Ok grants → (0 < length grants) × AreGrants [] grants × (text ≡ joined (map spelled grants))
+PoliciesAreSpelled = (text : List ℕ) (grants : List Grant) → grants_of text ≡ Ok grants
+    → (0 < length grants) × AreGrants [] grants × (text ≡ joined (map spelled grants))

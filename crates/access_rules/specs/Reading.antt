@@ -75,7 +75,8 @@ with_grant (Some grant) place further = further grant
 -- the grants of the pieces after those that were read; else the place of the first piece that does not fit
 abbrev pub grants_from : List Grant → ℕ → List (List ℕ) → Result (List Grant) ℕ
 grants_from earlier place [] = Ok earlier
-grants_from earlier place (piece ∷ pieces) = with_grant (if_new earlier (grant_of piece)) place (λ grant. grants_from (earlier ++ grant ∷ []) (place + length piece + 1) pieces)
+grants_from earlier place (piece ∷ pieces) =
+    with_grant (if_new earlier (grant_of piece)) place (λ grant. grants_from (earlier ++ grant ∷ []) (place + length piece + 1) pieces)
 
 -- the grants of a text: one or more, joined by commas, each of another user; else the place of the first that does not fit
 abbrev pub grants_of : List ℕ → Result (List Grant) ℕ

@@ -36,12 +36,14 @@ ahead_in key n x (y ∷ ys) h (inr i) = ahead_in key n x ys h.1 i
 not_both : (m n : ℕ) → m < n → n < m → ⊥
 not_both m n h g = omega (arith, h, g)
 
-same_lists : {A : Type 0} (key : A → ℕ) (xs ys : List A) → Ranked key xs → Ranked key ys → ((z : A) → In z xs → In z ys) → ((z : A) → In z ys → In z xs) → xs ≡ ys
+same_lists : {A : Type 0} (key : A → ℕ) (xs ys : List A) → Ranked key xs → Ranked key ys → ((z : A) → In z xs → In z ys)
+    → ((z : A) → In z ys → In z xs) → xs ≡ ys
 same_lists key [] [] p q f g = refl
 same_lists key [] (y ∷ ys) p q f g = absurd (g y (inl refl))
 same_lists key (x ∷ xs) [] p q f g = absurd (f x (inl refl))
 same_lists {A = A} key (x ∷ xs) (y ∷ ys) p q f g =
-    let rest = same_lists key xs ys p.1 q.1 (λ z i. later z y ys (f z (inr i)) (λ e. apart x z xs p.0 i (head ∙ sym e))) (λ z i. later z x xs (g z (inr i)) (λ e. apart y z ys q.0 i (sym head ∙ sym e))) in
+    let rest = same_lists key xs ys p.1 q.1 (λ z i. later z y ys (f z (inr i)) (λ e. apart x z xs p.0 i (head ∙ sym e)))
+    (λ z i. later z x xs (g z (inr i)) (λ e. apart y z ys q.0 i (sym head ∙ sym e))) in
     λ i. head i ∷ rest i
   where
     head : x ≡ y
@@ -54,7 +56,8 @@ same_lists {A = A} key (x ∷ xs) (y ∷ ys) p q f g =
     ]
 
     apart : (a z : A) (zs : List A) → Ahead key (key a) zs → In z zs → a ≡ z → ⊥
-    apart a z zs h i e = let low = ahead_in key (key a) z zs h i in not_both (key a) (key z) low (subst (λ n. n < key a) (ap key e) (subst (λ n. key a < n) (sym (ap key e)) low))
+    apart a z zs h i e = let low = ahead_in key (key a) z zs h i
+        in not_both (key a) (key z) low (subst (λ n. n < key a) (ap key e) (subst (λ n. key a < n) (sym (ap key e)) low))
 
     later : (z w : A) (ws : List A) → In z (w ∷ ws) → (z ≡ w → ⊥) → In z ws
     later z w ws (inl e) out = absurd (out e)
@@ -78,8 +81,10 @@ of_in i [] h = absurd h
 of_in i (x ∷ xs) (inl e) = or_left (nat_eq i x) (is_in i xs) (subst (λ y. nat_eq i y ≡ true) e (nat_equality.own i))
 of_in i (x ∷ xs) (inr h) = or_right (nat_eq i x) (is_in i xs) (of_in i xs h)
 
-same_places : (xs ys : List ℕ) → Rising xs → Rising ys → ((i : ℕ) → is_in i xs ≡ true → is_in i ys ≡ true) → ((i : ℕ) → is_in i ys ≡ true → is_in i xs ≡ true) → xs ≡ ys
-same_places xs ys p q f g = same_lists (λ x. x) xs ys (ranked_of xs p) (ranked_of ys q) (λ i h. in_of i ys (f i (of_in i xs h))) (λ i h. in_of i xs (g i (of_in i ys h)))
+same_places : (xs ys : List ℕ) → Rising xs → Rising ys → ((i : ℕ) → is_in i xs ≡ true → is_in i ys ≡ true)
+    → ((i : ℕ) → is_in i ys ≡ true → is_in i xs ≡ true) → xs ≡ ys
+same_places xs ys p q f g =
+    same_lists (λ x. x) xs ys (ranked_of xs p) (ranked_of ys q) (λ i h. in_of i ys (f i (of_in i xs h))) (λ i h. in_of i xs (g i (of_in i ys h)))
 
 -- ---- buckets in the order of their first places
 first_of : List ℕ → ℕ
@@ -132,7 +137,9 @@ mine_in i j b (c ∷ bs) s (inr h) = mine_in i j b bs s.1 h
 
 share_in : (i k : ℕ) (b : Bucket) (bs : List Bucket) → In b bs → is_in i b.theirs ≡ true → is_in k b.mine ≡ true → shares bs i k ≡ true
 share_in i k b [] h t m = absurd h
-share_in i k b (c ∷ bs) (inl e) t m = or_left (is_in i c.theirs && is_in k c.mine) (shares bs i k) (subst (λ (d : Bucket). is_in i d.theirs && is_in k d.mine ≡ true) e (and_both (is_in i b.theirs) (is_in k b.mine) t m))
+share_in i k b (c ∷ bs) (inl e) t m =
+    or_left (is_in i c.theirs && is_in k c.mine) (shares bs i k)
+    (subst (λ (d : Bucket). is_in i d.theirs && is_in k d.mine ≡ true) e (and_both (is_in i b.theirs) (is_in k b.mine) t m))
 share_in i k b (c ∷ bs) (inr h) t m = or_right (is_in i c.theirs && is_in k c.mine) (shares bs i k) (share_in i k b bs h t m)
 
 in_share : (i k : ℕ) (bs : List Bucket) → shares bs i k ≡ true → (b : Bucket) × In b bs × (is_in i b.theirs ≡ true) × (is_in k b.mine ≡ true)
@@ -147,7 +154,8 @@ place_in (x ∷ xs) h = (x, or_left (nat_eq x x) (is_in x xs) (nat_equality.own 
 
 -- ---- two lists of buckets that are the classes, in order
 module _ (meta : Meta) (theirs mine : List Operation) where
-  their_place : (bs cs : List Bucket) → AreClasses meta theirs mine bs → AreClasses meta theirs mine cs → (b c : Bucket) → In b bs → In c cs → (i k : ℕ) → is_in i b.theirs ≡ true → is_in k b.mine ≡ true → is_in i c.theirs ≡ true
+  their_place : (bs cs : List Bucket) → AreClasses meta theirs mine bs → AreClasses meta theirs mine cs → (b c : Bucket) → In b bs → In c cs
+      → (i k : ℕ) → is_in i b.theirs ≡ true → is_in k b.mine ≡ true → is_in i c.theirs ≡ true
       → (j : ℕ) → is_in j b.theirs ≡ true → is_in j c.theirs ≡ true
   their_place bs cs p q b c at there i k ib kb ic j jb =
       let one = p.linked i k (share_in i k b bs at ib kb) in
@@ -155,16 +163,19 @@ module _ (meta : Meta) (theirs mine : List Operation) where
       let on = linked_join meta (theirs ++ mine) i (length theirs + k) j one.2 (linked_turn meta (theirs ++ mine) j (length theirs + k) two.2) in
       sym (theirs_in i j c cs (q.whole_theirs i j one.0 two.0 on) there) ∙ ic
 
-  my_place : (bs cs : List Bucket) → AreClasses meta theirs mine bs → AreClasses meta theirs mine cs → (b c : Bucket) → In b bs → In c cs → (i k : ℕ) → is_in i b.theirs ≡ true → is_in k b.mine ≡ true → is_in k c.mine ≡ true
+  my_place : (bs cs : List Bucket) → AreClasses meta theirs mine bs → AreClasses meta theirs mine cs → (b c : Bucket) → In b bs → In c cs → (i k : ℕ)
+      → is_in i b.theirs ≡ true → is_in k b.mine ≡ true → is_in k c.mine ≡ true
       → (j : ℕ) → is_in j b.mine ≡ true → is_in j c.mine ≡ true
   my_place bs cs p q b c at there i k ib kb kc j jb =
       let one = p.linked i k (share_in i k b bs at ib kb) in
       let two = p.linked i j (share_in i j b bs at ib jb) in
-      let on = linked_join meta (theirs ++ mine) (length theirs + k) i (length theirs + j) (linked_turn meta (theirs ++ mine) i (length theirs + k) one.2) two.2 in
+      let on = linked_join meta (theirs ++ mine) (length theirs + k) i (length theirs + j)
+      (linked_turn meta (theirs ++ mine) i (length theirs + k) one.2) two.2 in
       sym (mine_in k j c cs (q.whole_mine k j one.1 two.1 on) there) ∙ kc
 
   -- each bucket of the one list is in the other
-  bucket_in : (bs cs : List Bucket) → AreClasses meta theirs mine bs → AreClasses meta theirs mine cs → InOrder bs → InOrder cs → (b : Bucket) → In b bs → In b cs
+  bucket_in : (bs cs : List Bucket) → AreClasses meta theirs mine bs → AreClasses meta theirs mine cs → InOrder bs → InOrder cs → (b : Bucket)
+      → In b bs → In b cs
   bucket_in bs cs p q m n b at =
       let some = mixed_in b bs p.mixed at in
       let i = place_in b.theirs some.0 in
@@ -173,13 +184,18 @@ module _ (meta : Meta) (theirs mine : List Operation) where
       let c = in_share i.0 k.0 cs (q.shared i.0 k.0 on.0 on.1 on.2) in
       let rb = rising_in b bs m.rising at in
       let rc = rising_in c.0 cs n.rising c.1 in
-      let t = same_places b.theirs c.0.theirs rb.0 rc.0 (their_place bs cs p q b c.0 at c.1 i.0 k.0 i.1 k.1 c.2) (their_place cs bs q p c.0 b c.1 at i.0 k.0 c.2 c.3 i.1) in
-      let u = same_places b.mine c.0.mine rb.1 rc.1 (my_place bs cs p q b c.0 at c.1 i.0 k.0 i.1 k.1 c.3) (my_place cs bs q p c.0 b c.1 at i.0 k.0 c.2 c.3 k.1) in
+      let t = same_places b.theirs c.0.theirs rb.0 rc.0 (their_place bs cs p q b c.0 at c.1 i.0 k.0 i.1 k.1 c.2)
+      (their_place cs bs q p c.0 b c.1 at i.0 k.0 c.2 c.3 i.1) in
+      let u = same_places b.mine c.0.mine rb.1 rc.1 (my_place bs cs p q b c.0 at c.1 i.0 k.0 i.1 k.1 c.3)
+      (my_place cs bs q p c.0 b c.1 at i.0 k.0 c.2 c.3 k.1) in
       let same : b ≡ c.0 = λ x. record { theirs = t x; mine = u x } in
       subst (λ d. In d cs) (sym same) c.1
 
   one_list : (bs cs : List Bucket) → AreClasses meta theirs mine bs → AreClasses meta theirs mine cs → InOrder bs → InOrder cs → bs ≡ cs
-  one_list bs cs p q m n = same_lists first_key bs cs (ranked_buckets bs p.mixed m.order) (ranked_buckets cs q.mixed n.order) (bucket_in bs cs p q m n) (bucket_in cs bs q p n m)
+  one_list bs cs p q m n =
+      same_lists first_key bs cs (ranked_buckets bs p.mixed m.order) (ranked_buckets cs q.mixed n.order) (bucket_in bs cs p q m n)
+      (bucket_in cs bs q p n m)
 
 pub buckets_leave_no_choice : BucketsLeaveNoChoice
-buckets_leave_no_choice meta theirs mine bs classes order = one_list meta theirs mine bs (buckets meta theirs mine) classes (buckets_are_classes meta theirs mine) order (buckets_in_order meta theirs mine)
+buckets_leave_no_choice meta theirs mine bs classes order =
+    one_list meta theirs mine bs (buckets meta theirs mine) classes (buckets_are_classes meta theirs mine) order (buckets_in_order meta theirs mine)

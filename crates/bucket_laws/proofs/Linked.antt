@@ -21,13 +21,15 @@ linked_join meta os i j k h (next {j = m} g a b is) = next (linked_join meta os 
 
 pub linked_turn : (meta : Meta) (os : List Operation) (i j : ℕ) → Linked meta os i j → Linked meta os j i
 linked_turn meta os i j here = here
-linked_turn meta os i j (next {j = m} {a = x} {b = y} g a b is) = linked_join meta os j m i (next here b a (interference_is_symmetric meta y x ∙ is)) (linked_turn meta os i m g)
+linked_turn meta os i j (next {j = m} {a = x} {b = y} g a b is) =
+    linked_join meta os j m i (next here b a (interference_is_symmetric meta y x ∙ is)) (linked_turn meta os i m g)
 
 linked_later : (meta : Meta) (o : Operation) (os : List Operation) (i j : ℕ) → Linked meta os i j → Linked meta (o ∷ os) (suc i) (suc j)
 linked_later meta o os i j here = here
 linked_later meta o os i j (next {j = m} g a b is) = next (linked_later meta o os i m g) a b is
 
-pub linked_place : (meta : Meta) (os : List Operation) (i j : ℕ) (a : Operation) → slice_get os i ≡ Some a → Linked meta os i j → (b : Operation) × (slice_get os j ≡ Some b)
+pub linked_place : (meta : Meta) (os : List Operation) (i j : ℕ) (a : Operation) → slice_get os i ≡ Some a → Linked meta os i j
+    → (b : Operation) × (slice_get os j ≡ Some b)
 linked_place meta os i j a h here = (a, h)
 linked_place meta os i j a h (next {b = y} g x b is) = (y, b)
 
@@ -37,7 +39,8 @@ linked_label meta os i j here = refl
 linked_label meta os i j (next {j = m} {a = x} {b = y} g a b is) = linked_label meta os i m g ∙ labels_close meta os m j x y a b is
 
 -- ---- from labels to links
-hits_back : (meta : Meta) (o : Operation) (os : List Operation) (ls : List ℕ) (l : ℕ) → hits meta o os ls l ≡ true → (k : ℕ) × (p : Operation) × (slice_get os k ≡ Some p) × (slice_get ls k ≡ Some l) × (interferes meta o p ≡ true)
+hits_back : (meta : Meta) (o : Operation) (os : List Operation) (ls : List ℕ) (l : ℕ) → hits meta o os ls l ≡ true
+    → (k : ℕ) × (p : Operation) × (slice_get os k ≡ Some p) × (slice_get ls k ≡ Some l) × (interferes meta o p ≡ true)
 hits_back meta o [] ls l h = cc
 hits_back meta o (q ∷ os) [] l h = cc
 hits_back meta o (q ∷ os) (m ∷ ls) l h =
@@ -88,7 +91,8 @@ module _ (meta : Meta) (o : Operation) (os : List Operation) where
       let same = (moved_suc (hits meta o os (labels meta os) m.0) m.0 l m.2).1 in
       sym (ap (moved meta o os) same) ∙ m.2
 
-pub labels_linked : (meta : Meta) (os : List Operation) (i j l : ℕ) → slice_get (labels meta os) i ≡ Some l → slice_get (labels meta os) j ≡ Some l → Linked meta os i j
+pub labels_linked : (meta : Meta) (os : List Operation) (i j l : ℕ) → slice_get (labels meta os) i ≡ Some l → slice_get (labels meta os) j ≡ Some l
+    → Linked meta os i j
 unfolding labels Later
 labels_linked meta [] i j l h g = cc
 labels_linked meta (o ∷ os) zero zero l h g = here
@@ -98,7 +102,8 @@ labels_linked meta (o ∷ os) (suc i) (suc j) zero h g =
     linked_join meta (o ∷ os) (suc i) 0 (suc j)
     (linked_turn meta (o ∷ os) 0 (suc i) (taken meta o os (labels_linked meta os) i h))
     (taken meta o os (labels_linked meta os) j g)
-labels_linked meta (o ∷ os) (suc i) (suc j) (suc l) h g = linked_later meta o os i j (labels_linked meta os i j l (still meta o os l i h) (still meta o os l j g))
+labels_linked meta (o ∷ os) (suc i) (suc j) (suc l) h g =
+    linked_later meta o os i j (labels_linked meta os i j l (still meta o os l i h) (still meta o os l j g))
 
 -- a label is the place of an operation with that label
 pub own_label : (meta : Meta) (os : List Operation) (i l : ℕ) → slice_get (labels meta os) i ≡ Some l → slice_get (labels meta os) l ≡ Some l

@@ -1,5 +1,6 @@
 -- The buckets stand in the order of their first operations, and their places rise.
-use Rattle.std.proofs.Common.{◌≡◌, ℕ, zero, suc, ◌<◌, ◌≤◌, true, false, cond, List, [], ◌∷◌, ◌++◌, refl, sym, ap, subst, ◌∙◌, ◌||◌, map, take, drop, length, nat_eq, arith}
+use Rattle.std.proofs.Common.{◌≡◌, ℕ, zero, suc, ◌<◌, ◌≤◌, true, false, cond, List, [], ◌∷◌, ◌++◌, refl, sym, ap, subst, ◌∙◌, ◌||◌, map, take, drop}
+use Rattle.std.proofs.Common.{length, nat_eq, arith}
 use Rattle.std.specs.Prelude.{Some, slice_get}
 use Rattle.std.proofs.lemmas.Option.{slice_get_within}
 use Rattle.finite_maps.proofs.EqualLaws.{nat_equality}
@@ -71,7 +72,9 @@ all_join (b ∷ bs) cs h g = (h.0, h.1, all_join bs cs h.2 g)
 
 rows_rising : (ts ms : List ℕ) (n : ℕ) → AllRising (rows ts ms n)
 rows_rising ts ms zero = tt
-rows_rising ts ms (suc n) = all_join (rows ts ms n) (mixed (places n ts) (places n ms)) (rows_rising ts ms n) (mixed_rising (places n ts) (places n ms) (places_rising n ts) (places_rising n ms))
+rows_rising ts ms (suc n) =
+    all_join (rows ts ms n) (mixed (places n ts) (places n ms)) (rows_rising ts ms n)
+    (mixed_rising (places n ts) (places n ms) (places_rising n ts) (places_rising n ms))
 
 -- ---- their order
 Below : ℕ → List ℕ → Type 0
@@ -128,7 +131,8 @@ first_is ts own n x xs h =
     same x n h g = omega (arith, h, g)
 
 -- a mixed component has the one first place, or there is none
-mixed_first : (ts : List ℕ) → Own ts → (n : ℕ) (xs ys : List ℕ) → places n ts ≡ xs → {G : Type 0} → (firsts (mixed xs ys) ≡ [] → G) → (firsts (mixed xs ys) ≡ n ∷ [] → G) → G
+mixed_first : (ts : List ℕ) → Own ts → (n : ℕ) (xs ys : List ℕ) → places n ts ≡ xs → {G : Type 0} → (firsts (mixed xs ys) ≡ [] → G)
+    → (firsts (mixed xs ys) ≡ n ∷ [] → G) → G
 mixed_first ts own n [] ys h none one = none refl
 mixed_first ts own n (x ∷ xs) [] h none one = none refl
 mixed_first ts own n (x ∷ xs) (y ∷ ys) h none one = one (ap (λ z. z ∷ []) (first_is ts own n x xs h))

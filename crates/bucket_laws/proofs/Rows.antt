@@ -1,5 +1,6 @@
 -- The buckets, by the labels of the two sides.
-use Rattle.std.proofs.Common.{◌≡◌, ℕ, zero, suc, ◌+◌, ◌<◌, ◌≤◌, Bool, true, false, cond, List, [], ◌∷◌, ◌++◌, refl, sym, ap, subst, ◌∙◌, ◌&&◌, ◌||◌, map, take, drop, length, nat_eq, arith, rules, inl, inr}
+use Rattle.std.proofs.Common.{◌≡◌, ℕ, zero, suc, ◌+◌, ◌<◌, ◌≤◌, Bool, true, false, cond, List, [], ◌∷◌, ◌++◌, refl, sym, ap, subst, ◌∙◌, ◌&&◌, ◌||◌}
+use Rattle.std.proofs.Common.{map, take, drop, length, nat_eq, arith, rules, inl, inr}
 use Rattle.std.specs.Prelude.{Option, None, Some, slice_get}
 use Rattle.std.proofs.lemmas.Bool.{cases_lt, or_left, or_right}
 use Rattle.std.proofs.lemmas.Option.{slice_get_within}
@@ -58,7 +59,8 @@ suc_in i (x ∷ xs) = λ t. eq_suc i x t || suc_in i xs t
 
 pub in_places : (l : ℕ) (ls : List ℕ) (i : ℕ) → is_in i (places l ls) ≡ has_label l (slice_get ls i)
 in_places l [] i = refl
-in_places l (m ∷ ms) zero = elim (nat_eq m l) as (λ t. is_in 0 (cond t (0 ∷ map suc (places l ms)) (map suc (places l ms))) ≡ t) [ true ↦ refl | false ↦ zero_out (places l ms) ]
+in_places l (m ∷ ms) zero =
+    elim (nat_eq m l) as (λ t. is_in 0 (cond t (0 ∷ map suc (places l ms)) (map suc (places l ms))) ≡ t) [ true ↦ refl | false ↦ zero_out (places l ms) ]
 in_places l (m ∷ ms) (suc i) =
     elim (nat_eq m l) as (λ t. is_in (suc i) (cond t (0 ∷ map suc (places l ms)) (map suc (places l ms))) ≡ is_in i (places l ms)) [
       | true ↦ ap (λ b. b || is_in (suc i) (map suc (places l ms))) (suc_zero i) ∙ suc_in i (places l ms)
@@ -115,7 +117,8 @@ rows_share ts ms (suc n) i k l low h g =
 
 -- ---- the two sides
 module _ (meta : Meta) (theirs mine : List Operation) where
-  their_label : (i : ℕ) (a : Operation) → slice_get theirs i ≡ Some a → slice_get (take (length theirs) (labels meta (theirs ++ mine))) i ≡ slice_get (labels meta (theirs ++ mine)) i
+  their_label : (i : ℕ) (a : Operation) → slice_get theirs i ≡ Some a
+      → slice_get (take (length theirs) (labels meta (theirs ++ mine))) i ≡ slice_get (labels meta (theirs ++ mine)) i
   their_label i a h = take_at (length theirs) (labels meta (theirs ++ mine)) i (slice_get_within theirs i a h)
 
   my_label : (k : ℕ) → slice_get (drop (length theirs) (labels meta (theirs ++ mine))) k ≡ slice_get (labels meta (theirs ++ mine)) (length theirs + k)
@@ -127,9 +130,11 @@ module _ (meta : Meta) (theirs mine : List Operation) where
   pub parts : Parts meta theirs mine (buckets meta theirs mine)
   unfolding buckets
   parts = record {
-    among_theirs = λ i j a b h g is. rows_theirs (take (length theirs) (labels meta (theirs ++ mine))) (drop (length theirs) (labels meta (theirs ++ mine))) (length theirs) i j
+    among_theirs = λ i j a b h g is.
+        rows_theirs (take (length theirs) (labels meta (theirs ++ mine))) (drop (length theirs) (labels meta (theirs ++ mine))) (length theirs) i j
         (their_label i a h ∙ labels_close meta (theirs ++ mine) i j a b (left_at theirs mine i a h) (left_at theirs mine j b g) is ∙ sym (their_label j b g));
-    among_mine = λ i j a b h g is. rows_mine (take (length theirs) (labels meta (theirs ++ mine))) (drop (length theirs) (labels meta (theirs ++ mine))) (length theirs) i j
+    among_mine = λ i j a b h g is.
+        rows_mine (take (length theirs) (labels meta (theirs ++ mine))) (drop (length theirs) (labels meta (theirs ++ mine))) (length theirs) i j
         (my_label i ∙ labels_close meta (theirs ++ mine) (length theirs + i) (length theirs + j) a b (mine_at i a h) (mine_at j b g) is ∙ sym (my_label j));
     across = λ i k a b h g is.
         let l = labelled meta (theirs ++ mine) i a (left_at theirs mine i a h) in

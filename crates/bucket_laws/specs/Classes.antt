@@ -9,7 +9,8 @@ use Rattle.bucket_laws.specs.Parts.{SameTheirs, SameMine, shares}
 -- a list of places leads from one to the other, and the operations at neighbours in it interfere
 pub data Linked (meta : Meta) (os : List Operation) : ℕ → ℕ → Type 0 where
   here : {i : ℕ} → Linked meta os i i
-  next : {i j k : ℕ} {a b : Operation} → Linked meta os i j → slice_get os j ≡ Some a → slice_get os k ≡ Some b → interferes meta a b ≡ true → Linked meta os i k
+  next : {i j k : ℕ} {a b : Operation} → Linked meta os i j → slice_get os j ≡ Some a → slice_get os k ≡ Some b → interferes meta a b ≡ true
+      → Linked meta os i k
 
 -- each bucket has operations of both sides
 abbrev pub AllMixed : List Bucket → Type 0

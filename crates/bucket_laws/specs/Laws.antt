@@ -27,4 +27,5 @@ BucketsInOrder = (meta : Meta) (theirs mine : List Operation) → InOrder (bucke
 
 -- a list of buckets that are the classes with operations of both sides, in order, is the buckets
 abbrev pub BucketsLeaveNoChoice : Type 0
-BucketsLeaveNoChoice = (meta : Meta) (theirs mine : List Operation) (bs : List Bucket) → AreClasses meta theirs mine bs → InOrder bs → bs ≡ buckets meta theirs mine
+BucketsLeaveNoChoice = (meta : Meta) (theirs mine : List Operation) (bs : List Bucket) → AreClasses meta theirs mine bs → InOrder bs
+    → bs ≡ buckets meta theirs mine

@@ -1,5 +1,6 @@
 -- Reading and encoding of each field.
-use Rattle.std.proofs.Common.{◌≡◌, ℕ, zero, suc, ◌+◌, ◌^◌, ◌<◌, ◌≤◌, Bool, true, false, cond, nat_lt, List, [], ◌∷◌, ◌++◌, length, take, drop, Result, Ok, Err, refl, sym, ap, subst, ◌∙◌, arith}
+use Rattle.std.proofs.Common.{◌≡◌, ℕ, zero, suc, ◌+◌, ◌^◌, ◌<◌, ◌≤◌, Bool, true, false, cond, nat_lt, List, [], ◌∷◌, ◌++◌, length, take, drop, Result}
+use Rattle.std.proofs.Common.{Ok, Err, refl, sym, ap, subst, ◌∙◌, arith}
 use Rattle.std.specs.Int.{Width, w32, w64, byte_len, from_be_bytes, to_be_bytes}
 use Rattle.std.specs.Str.{is_utf8}
 use Rattle.std.proofs.lemmas.Bool.{le-ltb}
@@ -55,10 +56,22 @@ pub record IsWide (w : Width) (limit : ℕ) : Type 0 where
   pub below : (bs : List ℕ) → length bs ≡ byte_len w → AreBytes bs → from_be_bytes w bs < limit
 
 pub wide32 : IsWide w32 (2 ^ 32)
-wide32 = record { len = λ n. refl; again = λ n lt. from_be_bytes-to_be_bytes_4 n lt; spelled = λ bs l b. be_bytes_4 bs (from_be_bytes w32 bs) l b refl; below = λ bs l b. omega (arith, b 0, b 1, b 2, b 3) }
+wide32 = record {
+  len = λ n. refl;
+  again = λ n lt. from_be_bytes-to_be_bytes_4 n lt;
+  spelled =
+      λ bs l b. be_bytes_4 bs (from_be_bytes w32 bs) l b refl;
+  below = λ bs l b. omega (arith, b 0, b 1, b 2, b 3);
+}
 
 pub wide64 : IsWide w64 (2 ^ 64)
-wide64 = record { len = λ n. refl; again = λ n lt. from_be_bytes-to_be_bytes_8 n lt; spelled = λ bs l b. be_bytes_8 bs (from_be_bytes w64 bs) l b refl; below = λ bs l b. omega (arith, b 0, b 1, b 2, b 3, b 4, b 5, b 6, b 7) }
+wide64 = record {
+  len = λ n. refl;
+  again = λ n lt. from_be_bytes-to_be_bytes_8 n lt;
+  spelled =
+      λ bs l b. be_bytes_8 bs (from_be_bytes w64 bs) l b refl;
+  below = λ bs l b. omega (arith, b 0, b 1, b 2, b 3, b 4, b 5, b 6, b 7);
+}
 
 pub byte_again : IsReadAgain (IsBelow 256) byte_encoding byte_at
 unfolding byte_at
@@ -125,7 +138,13 @@ unfolding text_at text_encoding u32_encoding
 text_again text is rest place =
     let long : nat_lt (length (text ++ rest)) (length text) ≡ false = le-ltb _ _ (omega (arith, length-append text rest)) in
     let utf8 : is_utf8 text ≡ true = is_utf8-from_IsUtf8 text is.1 in
-    rw (number_again w32 (2 ^ 32) wide32 (length text) is.0 (text ++ rest) place, long, take_at text rest (length text) refl, drop_at text rest (length text) refl, utf8)
+    rw (
+      number_again w32 (2 ^ 32) wide32 (length text) is.0 (text ++ rest) place,
+      long,
+      take_at text rest (length text) refl,
+      drop_at text rest (length text) refl,
+      utf8,
+    )
     (ap (λ k. Ok (text, at rest k)) (omega arith))
 
 pub text_spelled : IsSpelledSo IsShortText text_encoding text_at
@@ -143,6 +162,7 @@ text_spelled before bytes text after e =
     stands IsShortText text_encoding before (past rest n) after (take n rest.bytes) text u.1
     (record {
       is = (omega (arith, len, s.is), IsUtf8-from_is_utf8 (take n rest.bytes) u.0);
-      bytes = s.bytes ∙ ap (λ bs. to_be_bytes w32 n ++ bs) (sym (take-append-drop n rest.bytes)) ∙ ap (λ m. to_be_bytes w32 m ++ (take n rest.bytes ++ drop n rest.bytes)) (sym len);
+      bytes = s.bytes ∙ ap (λ bs. to_be_bytes w32 n ++ bs) (sym (take-append-drop n rest.bytes))
+          ∙ ap (λ m. to_be_bytes w32 m ++ (take n rest.bytes ++ drop n rest.bytes)) (sym len);
       place = omega (arith, s.place, len);
     })

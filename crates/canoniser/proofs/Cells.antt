@@ -35,7 +35,8 @@ joined_cells meta s t u h = cc
 abbrev pub SamePrint : Meta → Operation → Operation → Type 0
 SamePrint meta c a = (op_writes meta c ≡ op_writes meta a) × (op_reads c ≡ op_reads a)
 
-one_step : (meta : Meta) (kind : OpKind) (s : Step) (o : Option Step) (c : Operation) → ((u : Step) → o ≡ Some u → SameCells meta u s) → option_map (λ u. Simple kind (u ∷ [])) o ≡ Some c → SamePrint meta c (Simple kind (s ∷ []))
+one_step : (meta : Meta) (kind : OpKind) (s : Step) (o : Option Step) (c : Operation) → ((u : Step) → o ≡ Some u → SameCells meta u s)
+    → option_map (λ u. Simple kind (u ∷ [])) o ≡ Some c → SamePrint meta c (Simple kind (s ∷ []))
 one_step meta kind s None c same h = cc
 one_step meta kind s (Some u) c same h =
     let is : c ≡ Simple kind (u ∷ []) = cc in

@@ -1,5 +1,6 @@
 -- Operations by their places, as they come, stand and go.
-use Rattle.std.proofs.Common.{◌≡◌, ℕ, zero, suc, ◌+◌, ◌<◌, ◌≤◌, Bool, true, false, List, [], ◌∷◌, ◌++◌, refl, sym, ap, subst, ◌∙◌, length, get_or, set, arith, append_assoc, append-nil, length-append}
+use Rattle.std.proofs.Common.{◌≡◌, ℕ, zero, suc, ◌+◌, ◌<◌, ◌≤◌, Bool, true, false, List, [], ◌∷◌, ◌++◌, refl, sym, ap, subst, ◌∙◌, length, get_or}
+use Rattle.std.proofs.Common.{set, arith, append_assoc, append-nil, length-append}
 use Rattle.std.specs.Prelude.{Option, None, Some, MatchOption, IfSome}
 use Rattle.std.proofs.lemmas.List.{get_or-append-add, get_or_append_left}
 use Rattle.std.proofs.Math.Seq.{get_or-append_seam, set-append_seam}
@@ -32,12 +33,14 @@ pub kept_rest : (fs : List Bool) (xs ys : List Operation) → length fs ≡ leng
 kept_rest fs xs ys h = ap (λ l. kept l (xs ++ ys)) (sym (append-nil fs)) ∙ kept_append fs [] xs ys h
 
 -- none of those that stand in a part touches b
-pub part_apart : (meta : Meta) (b : Operation) (gs : List Bool) (ys : List Operation) → length gs ≡ length ys → ((j : ℕ) (y : Operation) → j < length ys → get_or gs j false ≡ true → y ≡ get_or ys j y → touches meta b y ≡ false) → Apart meta b (kept gs ys)
+pub part_apart : (meta : Meta) (b : Operation) (gs : List Bool) (ys : List Operation) → length gs ≡ length ys
+    → ((j : ℕ) (y : Operation) → j < length ys → get_or gs j false ≡ true → y ≡ get_or ys j y → touches meta b y ≡ false) → Apart meta b (kept gs ys)
 part_apart meta b [] [] h out = tt
 part_apart meta b [] (y ∷ ys) h out = absurd (omega (arith, h))
 part_apart meta b (true ∷ gs) [] h out = absurd (omega (arith, h))
 part_apart meta b (false ∷ gs) [] h out = absurd (omega (arith, h))
-part_apart meta b (true ∷ gs) (y ∷ ys) h out = (out 0 y (omega arith) refl refl, part_apart meta b gs ys (omega (arith, h)) (λ j z low on is. out (suc j) z (omega (arith, low)) on is))
+part_apart meta b (true ∷ gs) (y ∷ ys) h out =
+    (out 0 y (omega arith) refl refl, part_apart meta b gs ys (omega (arith, h)) (λ j z low on is. out (suc j) z (omega (arith, low)) on is))
 part_apart meta b (false ∷ gs) (y ∷ ys) h out = part_apart meta b gs ys (omega (arith, h)) (λ j z low on is. out (suc j) z (omega (arith, low)) on is)
 
 -- flags and operations, cut at a place where one stands
@@ -57,14 +60,40 @@ pub cut_at : (fs : List Bool) (xs : List Operation) (i : ℕ) → length fs ≡ 
 cut_at [] [] i same low on = absurd (omega (arith, low))
 cut_at [] (x ∷ xs) i same low on = absurd (omega (arith, same))
 cut_at (f ∷ fs) [] i same low on = absurd (omega (arith, same))
-cut_at (f ∷ fs) (x ∷ xs) zero same low on = record { first = []; second = fs; front = []; a = x; mid = xs; flags = ap (λ g. g ∷ fs) on; ops = refl; place = refl; many = refl; more = omega (arith, same) }
+cut_at (f ∷ fs) (x ∷ xs) zero same low on =
+    record {
+      first = [];
+      second = fs;
+      front = [];
+      a = x;
+      mid = xs;
+      flags = ap (λ g. g ∷ fs) on;
+      ops = refl;
+      place = refl;
+      many = refl;
+      more =
+          omega (arith, same);
+    }
 cut_at (f ∷ fs) (x ∷ xs) (suc i) same low on =
     let c = cut_at fs xs i (omega (arith, same)) (omega (arith, low)) on in
-    record { first = f ∷ c.first; second = c.second; front = x ∷ c.front; a = c.a; mid = c.mid; flags = ap (λ l. f ∷ l) c.flags; ops = ap (λ l. x ∷ l) c.ops; place = ap suc c.place; many = ap suc c.many; more = c.more }
+    record {
+      first = f ∷ c.first;
+      second = c.second;
+      front = x ∷ c.front;
+      a = c.a;
+      mid = c.mid;
+      flags = ap (λ l. f ∷ l) c.flags;
+      ops =
+          ap (λ l. x ∷ l) c.ops;
+      place = ap suc c.place;
+      many = ap suc c.many;
+      more = c.more;
+    }
 
 -- ---- prints show which operations touch
 module _ (meta : Meta) (prints : List Print) (ops : List Operation) (is : shown prints ≡ printed meta ops) where
-  touch_tells : (at k : ℕ) (p : Print) (b y : Operation) → at < length ops → k < length ops → p ≡ get_or prints at p → b ≡ get_or ops at b → y ≡ get_or ops k y → prints_touch p (get_or prints k p) ≡ touches meta b y
+  touch_tells : (at k : ℕ) (p : Print) (b y : Operation) → at < length ops → k < length ops → p ≡ get_or prints at p → b ≡ get_or ops at b
+      → y ≡ get_or ops k y → prints_touch p (get_or prints k p) ≡ touches meta b y
   touch_tells at k p b y low high p_is b_is y_is =
       let q : Print = get_or prints k p in
       let many = as_many meta prints ops is in
@@ -74,24 +103,30 @@ module _ (meta : Meta) (prints : List Print) (ops : List Operation) (is : shown 
       λ i. touch (first.0 i) (first.1 i) (second.0 i) (second.1 i)
 
   -- where there is no hit, what stands doesn't touch
-  no_hit : (stands : List Bool) (at k : ℕ) (p : Print) (b y : Operation) → at < length ops → k < at → p ≡ get_or prints at p → b ≡ get_or ops at b → y ≡ get_or ops k y → get_or stands k false ≡ true → (Hit stands prints p at k → ⊥) → touches meta b y ≡ false
+  no_hit : (stands : List Bool) (at k : ℕ) (p : Print) (b y : Operation) → at < length ops → k < at → p ≡ get_or prints at p → b ≡ get_or ops at b
+      → y ≡ get_or ops k y → get_or stands k false ≡ true → (Hit stands prints p at k → ⊥) → touches meta b y ≡ false
   no_hit stands at k p b y low below p_is b_is y_is on none =
-      not_so (touches meta b y) (λ yes. none (record { low = below; there = on; near = touch_tells at k p b y low (omega (arith, low, below)) p_is b_is y_is ∙ yes }))
+      not_so (touches meta b y)
+      (λ yes. none (record { low = below; there = on; near = touch_tells at k p b y low (omega (arith, low, below)) p_is b_is y_is ∙ yes }))
 
-  some_hit : (stands : List Bool) (at k : ℕ) (p : Print) (b y : Operation) → at < length ops → p ≡ get_or prints at p → b ≡ get_or ops at b → y ≡ get_or ops k y → Hit stands prints p at k → touches meta b y ≡ true
-  some_hit stands at k p b y low p_is b_is y_is hit = sym (touch_tells at k p b y low (let below = hit.low in omega (arith, low, below)) p_is b_is y_is) ∙ hit.near
+  some_hit : (stands : List Bool) (at k : ℕ) (p : Print) (b y : Operation) → at < length ops → p ≡ get_or prints at p → b ≡ get_or ops at b
+      → y ≡ get_or ops k y → Hit stands prints p at k → touches meta b y ≡ true
+  some_hit stands at k p b y low p_is b_is y_is hit =
+      sym (touch_tells at k p b y low (let below = hit.low in omega (arith, low, below)) p_is b_is y_is) ∙ hit.near
 
 -- ---- places
 seam : {A : Type 0} (xs ys : List A) (a : A) (i : ℕ) → length xs ≡ i → a ≡ get_or (xs ++ (a ∷ ys)) i a
 seam xs ys a i e = sym (ap (λ n. get_or (xs ++ (a ∷ ys)) n a) (sym e) ∙ get_or-append_seam xs a ys a)
 
 behind : {A : Type 0} (xs ys zs : List A) (a d : A) (j n : ℕ) → j < length ys → length xs ≡ n → get_or (xs ++ (a ∷ (ys ++ zs))) (n + suc j) d ≡ get_or ys j d
-behind xs ys zs a d j n low e = ap (λ m. get_or (xs ++ (a ∷ (ys ++ zs))) (m + suc j) d) (sym e) ∙ get_or-append-add xs (a ∷ (ys ++ zs)) (suc j) d ∙ get_or_append_left ys zs d j low
+behind xs ys zs a d j n low e =
+    ap (λ m. get_or (xs ++ (a ∷ (ys ++ zs))) (m + suc j) d) (sym e) ∙ get_or-append-add xs (a ∷ (ys ++ zs)) (suc j) d ∙ get_or_append_left ys zs d j low
 
 set_seam : {A : Type 0} (xs ys : List A) (a b : A) (i : ℕ) → length xs ≡ i → set (xs ++ (a ∷ ys)) i b ≡ xs ++ (b ∷ ys)
 set_seam xs ys a b i e = ap (λ n. set (xs ++ (a ∷ ys)) n b) (sym e) ∙ set-append_seam xs a ys b
 
-same_place : (meta : Meta) (front back : List Operation) (a c : Operation) → op_writes meta c ≡ op_writes meta a → op_reads c ≡ op_reads a → printed meta (front ++ (c ∷ back)) ≡ printed meta (front ++ (a ∷ back))
+same_place : (meta : Meta) (front back : List Operation) (a c : Operation) → op_writes meta c ≡ op_writes meta a → op_reads c ≡ op_reads a
+    → printed meta (front ++ (c ∷ back)) ≡ printed meta (front ++ (a ∷ back))
 unfolding printed
 same_place meta [] back a c w r = λ t. (w t, r t) ∷ printed meta back
 same_place meta (x ∷ front) back a c w r = ap (λ l. (op_writes meta x, op_reads x) ∷ l) (same_place meta front back a c w r)
@@ -104,7 +139,8 @@ pub record Turned (meta : Meta) (stands made : List Bool) (prints : List Print) 
   pub lower : IfSome o (λ j. j < at)
 
 -- ---- one turn
-module _ (meta : Meta) (stands : List Bool) (prints : List Print) (ops : List Operation) (at : ℕ) (is : shown prints ≡ printed meta ops) (r : Ready meta stands ops at) where
+module _ (meta : Meta) (stands : List Bool) (prints : List Print) (ops : List Operation) (at : ℕ) (is : shown prints ≡ printed meta ops)
+    (r : Ready meta stands ops at) where
   many_come : length stands ≡ suc (length r.front + length r.back)
   many_come =
       let all = ap length r.stands_is ∙ length-append r.first (true ∷ r.second) in
@@ -149,14 +185,16 @@ module _ (meta : Meta) (stands : List Bool) (prints : List Print) (ops : List Op
     is = r.ops_is ∙ sym (append_assoc r.front (r.b ∷ r.back) r.rest);
     many = let m = many_come in let l = length-append r.front (r.b ∷ r.back) in omega (arith, m, l);
     settled =
-        subst (λ l. Settled meta (onto l [])) (sym (ap (λ l. kept l (r.front ++ (r.b ∷ r.back))) r.stands_is ∙ kept_append r.first (true ∷ r.second) r.front (r.b ∷ r.back) r.many))
+        subst (λ l. Settled meta (onto l []))
+        (sym (ap (λ l. kept l (r.front ++ (r.b ∷ r.back))) r.stands_is ∙ kept_append r.first (true ∷ r.second) r.front (r.b ∷ r.back) r.many))
         (stays meta r.b (kept r.first r.front) (kept r.second r.back) unmet r.apart r.settled);
   }
 
   -- nothing touches it
   calm_free : ((k : ℕ) → Hit stands prints p_there.0 at k → ⊥) → Calm meta stands ops
   calm_free none = calm_stays (passes_all meta r.b (kept r.first r.front) (part_apart meta r.b r.first r.front r.many
-      (λ k y low on y_is. no_hit meta prints ops is stands at k p_there.0 r.b y within_ops (let p = r.place in omega (arith, low, p)) p_there.1 b_is (y_is ∙ sym (front_op k y low)) (front_flag k low ∙ on) (none k))))
+      (λ k y low on y_is. no_hit meta prints ops is stands at k p_there.0 r.b y within_ops (let p = r.place in omega (arith, low, p)) p_there.1 b_is
+      (y_is ∙ sym (front_op k y low)) (front_flag k low ∙ on) (none k))))
 
   -- the last that touches it, at a place before it
   module _ (i : ℕ) (last : LastHit stands prints p_there.0 at i) where
@@ -182,14 +220,20 @@ module _ (meta : Meta) (stands : List Bool) (prints : List Print) (ops : List Op
         let all = ap length cut.ops ∙ length-append cut.front (cut.a ∷ cut.mid) in
         let few : i + suc j < length r.front = omega (arith, inside, p, all) in
         let m = cut.more in
-        let y_here : y ≡ get_or r.front (i + suc j) y = y_is ∙ sym (ap (λ l. get_or l (i + suc j) y) (cut.ops ∙ ap (λ l. cut.front ++ (cut.a ∷ l)) (sym (append-nil cut.mid))) ∙ behind cut.front cut.mid [] cut.a y j i inside p) in
-        let on_here : get_or r.first (i + suc j) false ≡ true = ap (λ l. get_or l (i + suc j) false) (cut.flags ∙ ap (λ l. cut.first ++ (true ∷ l)) (sym (append-nil cut.second))) ∙ behind cut.first cut.second [] true false j i (omega (arith, inside, m)) (cut.many ∙ p) ∙ on in
+        let y_here : y ≡ get_or r.front (i + suc j) y =
+        y_is ∙ sym (ap (λ l. get_or l (i + suc j) y) (cut.ops ∙ ap (λ l. cut.front ++ (cut.a ∷ l)) (sym (append-nil cut.mid)))
+        ∙ behind cut.front cut.mid [] cut.a y j i inside p) in
+        let on_here : get_or r.first (i + suc j) false ≡ true =
+        ap (λ l. get_or l (i + suc j) false) (cut.flags ∙ ap (λ l. cut.first ++ (true ∷ l)) (sym (append-nil cut.second)))
+        ∙ behind cut.first cut.second [] true false j i (omega (arith, inside, m)) (cut.many ∙ p) ∙ on in
         let place = r.place in
-        no_hit meta prints ops is stands at (i + suc j) p_there.0 r.b y within_ops (omega (arith, few, place)) p_there.1 b_is (y_here ∙ sym (front_op (i + suc j) y few)) (front_flag (i + suc j) few ∙ on_here) (last.last (i + suc j) (omega arith)))
+        no_hit meta prints ops is stands at (i + suc j) p_there.0 r.b y within_ops (omega (arith, few, place)) p_there.1 b_is
+        (y_here ∙ sym (front_op (i + suc j) y few)) (front_flag (i + suc j) few ∙ on_here) (last.last (i + suc j) (omega arith)))
 
     calm_stop : met cut.a r.b ≡ None → Calm meta stands ops
     calm_stop none = calm_stays (subst (λ l. Unmet meta r.b (onto l [])) (sym front_is)
-        (passes_stop meta r.b cut.a (kept cut.first cut.front) (kept cut.second cut.mid) between none (some_hit meta prints ops is stands at i p_there.0 r.b cut.a within_ops p_there.1 b_is a_is last.hit)))
+        (passes_stop meta r.b cut.a (kept cut.first cut.front) (kept cut.second cut.mid) between none
+        (some_hit meta prints ops is stands at i p_there.0 r.b cut.a within_ops p_there.1 b_is a_is last.hit)))
 
     module _ (left : Option Operation) (rule : met cut.a r.b ≡ Some (list_of left)) where
       settled : Settled meta (onto ((kept cut.first cut.front ++ (cut.a ∷ kept cut.second cut.mid)) ++ kept r.second r.back) [])
@@ -206,7 +250,8 @@ module _ (meta : Meta) (stands : List Bool) (prints : List Print) (ops : List Op
       flags_long = ap length (sym cut.flags) ∙ r.many ∙ r.place
 
       flags_gone : set stands at false ≡ cut.first ++ (true ∷ (cut.second ++ (false ∷ r.second)))
-      flags_gone = ap (λ l. set l at false) flags_around ∙ set_seam (cut.first ++ (true ∷ cut.second)) r.second true false at flags_long ∙ append_assoc cut.first (true ∷ cut.second) (false ∷ r.second)
+      flags_gone = ap (λ l. set l at false) flags_around ∙ set_seam (cut.first ++ (true ∷ cut.second)) r.second true false at flags_long
+          ∙ append_assoc cut.first (true ∷ cut.second) (false ∷ r.second)
 
       flags_both : set (set stands at false) i false ≡ cut.first ++ (false ∷ (cut.second ++ (false ∷ r.second)))
       flags_both = ap (λ l. set l i false) flags_gone ∙ set_seam cut.first (cut.second ++ (false ∷ r.second)) true false i (cut.many ∙ cut.place)
@@ -227,14 +272,17 @@ module _ (meta : Meta) (stands : List Bool) (prints : List Print) (ops : List Op
       gone_calm nothing = record {
         come = cut.front ++ (cut.a ∷ (cut.mid ++ (r.b ∷ r.back)));
         rest = r.rest;
-        is = ops_around ∙ sym (append_assoc cut.front (cut.a ∷ (cut.mid ++ (r.b ∷ r.back))) r.rest ∙ ap (λ l. cut.front ++ (cut.a ∷ l)) (append_assoc cut.mid (r.b ∷ r.back) r.rest));
+        is = ops_around ∙ sym (append_assoc cut.front (cut.a ∷ (cut.mid ++ (r.b ∷ r.back))) r.rest
+            ∙ ap (λ l. cut.front ++ (cut.a ∷ l)) (append_assoc cut.mid (r.b ∷ r.back) r.rest));
         many =
             let x = ap length flags_both ∙ length-append cut.first (false ∷ (cut.second ++ (false ∷ r.second))) in
             let y = length-append cut.front (cut.a ∷ (cut.mid ++ (r.b ∷ r.back))) in
             let t = tail_more in let m = cut.many in omega (arith, x, y, t, m);
         settled =
             subst (λ l. Settled meta (onto l []))
-            (sym (ap (λ l. kept l (cut.front ++ (cut.a ∷ (cut.mid ++ (r.b ∷ r.back))))) flags_both ∙ kept_append cut.first (false ∷ (cut.second ++ (false ∷ r.second))) cut.front (cut.a ∷ (cut.mid ++ (r.b ∷ r.back))) cut.many ∙ ap (λ l. kept cut.first cut.front ++ l) tail_kept))
+            (sym (ap (λ l. kept l (cut.front ++ (cut.a ∷ (cut.mid ++ (r.b ∷ r.back))))) flags_both
+            ∙ kept_append cut.first (false ∷ (cut.second ++ (false ∷ r.second))) cut.front (cut.a ∷ (cut.mid ++ (r.b ∷ r.back))) cut.many
+            ∙ ap (λ l. kept cut.first cut.front ++ l) tail_kept))
             (others_settled meta cut.a r.b (kept cut.first cut.front) (kept cut.second cut.mid) (kept r.second r.back) left between r.apart settled rule);
       }
 
@@ -252,20 +300,27 @@ module _ (meta : Meta) (stands : List Bool) (prints : List Print) (ops : List Op
         many = cut.many;
         more = tail_more;
         place = cut.place;
-        settled = subst (λ l. Settled meta (onto (kept cut.first cut.front ++ l) [])) (sym tail_kept) (others_settled meta cut.a r.b (kept cut.first cut.front) (kept cut.second cut.mid) (kept r.second r.back) left between r.apart settled rule);
-        apart = subst (Apart meta c) (sym tail_kept) (left_apart meta cut.a r.b (kept cut.first cut.front) (kept cut.second cut.mid) (kept r.second r.back) left between r.apart settled rule c one);
+        settled = subst (λ l. Settled meta (onto (kept cut.first cut.front ++ l) [])) (sym tail_kept)
+            (others_settled meta cut.a r.b (kept cut.first cut.front) (kept cut.second cut.mid) (kept r.second r.back) left between r.apart settled rule);
+        apart = subst (Apart meta c) (sym tail_kept)
+            (left_apart meta cut.a r.b (kept cut.first cut.front) (kept cut.second cut.mid)
+            (kept r.second r.back) left between r.apart settled rule c one);
       }
 
       -- what the rule leaves of all
       rule_whole : kept stands ops ≡ (kept cut.first cut.front ++ (cut.a ∷ kept cut.second cut.mid)) ++ (r.b ∷ (kept r.second r.back ++ r.rest))
       rule_whole = whole ∙ ap (λ l. l ++ (r.b ∷ (kept r.second r.back ++ r.rest))) front_is
 
-      leads_by : (q : List Operation) → q ≡ kept cut.first cut.front ++ (list_of left ++ (kept cut.second cut.mid ++ (kept r.second r.back ++ r.rest))) → Leads meta (kept stands ops) q
+      leads_by : (q : List Operation)
+          → q ≡ kept cut.first cut.front ++ (list_of left ++ (kept cut.second cut.mid ++ (kept r.second r.back ++ r.rest)))
+          → Leads meta (kept stands ops) q
       leads_by q e r' h = subst (λ l. Settles meta l r') (sym rule_whole)
-          (more (rule_taken meta cut.a r.b (kept cut.first cut.front) (kept cut.second cut.mid) (kept r.second r.back) left between r.apart settled rule r.rest) (subst (λ l. Settles meta l r') e h))
+          (more (rule_taken meta cut.a r.b (kept cut.first cut.front) (kept cut.second cut.mid)
+          (kept r.second r.back) left between r.apart settled rule r.rest) (subst (λ l. Settles meta l r') e h))
 
       rest_kept : kept (cut.second ++ (false ∷ r.second)) (cut.mid ++ (r.b ∷ (r.back ++ r.rest))) ≡ kept cut.second cut.mid ++ (kept r.second r.back ++ r.rest)
-      rest_kept = kept_append cut.second (false ∷ r.second) cut.mid (r.b ∷ (r.back ++ r.rest)) cut.more ∙ ap (λ l. kept cut.second cut.mid ++ l) (kept_rest r.second r.back r.rest r.more)
+      rest_kept = kept_append cut.second (false ∷ r.second) cut.mid (r.b ∷ (r.back ++ r.rest)) cut.more
+          ∙ ap (λ l. kept cut.second cut.mid ++ l) (kept_rest r.second r.back r.rest r.more)
 
       gone_leads : left ≡ None → Leads meta (kept stands ops) (kept (set (set stands at false) i false) ops)
       gone_leads nothing = leads_by (kept (set (set stands at false) i false) ops)
@@ -285,7 +340,8 @@ module _ (meta : Meta) (stands : List Bool) (prints : List Print) (ops : List Op
       left_printed : (c : Operation) → left ≡ Some c → shown prints ≡ printed meta (set ops i c)
       left_printed c one =
           let same = met_print meta cut.a r.b c (rule ∙ ap (λ o. Some (list_of o)) one) in
-          is ∙ ap (printed meta) ops_around ∙ sym (same_place meta cut.front (cut.mid ++ (r.b ∷ (r.back ++ r.rest))) cut.a c same.0 same.1) ∙ ap (printed meta) (sym (ops_set c))
+          is ∙ ap (printed meta) ops_around ∙ sym (same_place meta cut.front (cut.mid ++ (r.b ∷ (r.back ++ r.rest))) cut.a c same.0 same.1)
+          ∙ ap (printed meta) (sym (ops_set c))
 
   -- ---- what the search finds
   pub none_calm : NoRuleAt stands prints ops at → Calm meta stands ops
@@ -308,9 +364,17 @@ module _ (meta : Meta) (stands : List Bool) (prints : List Print) (ops : List Op
     -- with what is left
     turned_as : (o : Option Operation) → left ≡ o → Turned meta stands (stands_out stands i at o) prints ops (ops_out ops i o) at (place_left i o)
     turned_as None e = record { printed = is; leads = gone_leads i last left rule e; turned = gone_calm i last left rule e; lower = tt }
-    turned_as (Some c) e = record { printed = left_printed i last left rule c e; leads = left_leads i last left rule c e; turned = left_ready i last left rule c e; lower = place_low }
+    turned_as (Some c) e =
+        record {
+          printed = left_printed i last left rule c e;
+          leads = left_leads i last left rule c e;
+          turned =
+              left_ready i last left rule c e;
+          lower = place_low;
+        }
 
-    pub turned_by : (made : List Bool) (new : List Operation) (o : Option ℕ) → made ≡ stands_out stands i at left → new ≡ ops_out ops i left → o ≡ place_left i left → Turned meta stands made prints ops new at o
+    pub turned_by : (made : List Bool) (new : List Operation) (o : Option ℕ) → made ≡ stands_out stands i at left → new ≡ ops_out ops i left
+        → o ≡ place_left i left → Turned meta stands made prints ops new at o
     turned_by made new o made_is new_is o_is =
         subst (λ q. Turned meta stands made prints ops new at q) (sym o_is)
         (subst (λ l. Turned meta stands made prints ops l at (place_left i left)) (sym new_is)
@@ -318,13 +382,15 @@ module _ (meta : Meta) (stands : List Bool) (prints : List Print) (ops : List Op
 
 -- ---- one operation more
 pub calm_none : (meta : Meta) (stands : List Bool) (ops : List Operation) → stands ≡ [] → Calm meta stands ops
-calm_none meta stands ops e = record { come = []; rest = ops; is = refl; many = ap length e; settled = subst (λ l. Settled meta (onto (kept l []) [])) (sym e) tt }
+calm_none meta stands ops e =
+    record { come = []; rest = ops; is = refl; many = ap length e; settled = subst (λ l. Settled meta (onto (kept l []) [])) (sym e) tt }
 
 first_rest : (xs : List Operation) → 0 < length xs → (b : Operation) × (ys : List Operation) × (xs ≡ b ∷ ys)
 first_rest [] h = absurd (omega (arith, h))
 first_rest (b ∷ ys) h = (b, ys, refl)
 
-pub calm_ready : (meta : Meta) (stands made : List Bool) (ops : List Operation) (at : ℕ) → Calm meta stands ops → length stands < length ops → made ≡ stands ++ true ∷ [] → at ≡ length stands → Ready meta made ops at
+pub calm_ready : (meta : Meta) (stands made : List Bool) (ops : List Operation) (at : ℕ) → Calm meta stands ops → length stands < length ops
+    → made ≡ stands ++ true ∷ [] → at ≡ length stands → Ready meta made ops at
 calm_ready meta stands made ops at c few out at_is =
     let all = ap length c.is ∙ length-append c.come c.rest in
     let m = c.many in
@@ -355,7 +421,8 @@ kept_more (true ∷ stands) (o ∷ ops) h = ap (λ l. o ∷ l) (kept_more stands
 kept_more (false ∷ stands) (o ∷ ops) h = kept_more stands ops (omega (arith, h))
 
 -- ---- all have come
-pub calm_settles : (meta : Meta) (stands : List Bool) (ops : List Operation) → Calm meta stands ops → length ops ≤ length stands → Settles meta (kept stands ops) (kept stands ops)
+pub calm_settles : (meta : Meta) (stands : List Bool) (ops : List Operation) → Calm meta stands ops → length ops ≤ length stands
+    → Settles meta (kept stands ops) (kept stands ops)
 calm_settles meta stands ops c all = done (subst (NoRule meta) same (settled_rule meta (kept stands c.come) c.settled))
   where
     no_rest : (xs : List Operation) → length xs ≤ 0 → xs ≡ []

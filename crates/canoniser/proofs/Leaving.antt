@@ -21,7 +21,8 @@ some_left : (o left : Option Operation) → is_some (option_map (λ c. c ∷ [])
 some_left None left h is = cc
 some_left (Some c) left h is = ap (λ l. Some (list_of l)) (sym is)
 
-pub join_left : (a b : Operation) (left : Option Operation) → takes_back b a ≡ false → is_some (met a b) ≡ true → left ≡ joined_op a b → met a b ≡ Some (list_of left)
+pub join_left : (a b : Operation) (left : Option Operation) → takes_back b a ≡ false → is_some (met a b) ≡ true → left ≡ joined_op a b
+    → met a b ≡ Some (list_of left)
 join_left a b left h some is =
     let out : met a b ≡ option_map (λ c. c ∷ []) (joined_op a b) = ap (λ t. cond t (Some []) (option_map (λ c. c ∷ []) (joined_op a b))) h in
     out ∙ some_left (joined_op a b) left (ap is_some (sym out) ∙ some) is

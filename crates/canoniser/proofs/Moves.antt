@@ -40,23 +40,28 @@ unmet_put : (meta : Meta) (y b : Operation) (near far : List Operation) → met 
 unmet_put meta y b [] far none h = (none, λ _. h)
 unmet_put meta y b (x ∷ near) far none h = (h.0, λ free. unmet_put meta y b near far none (h.1 free))
 
-unmet_out : (meta : Meta) (y a : Operation) (near far : List Operation) → interferes meta y a ≡ false → Unmet meta y (near ++ (a ∷ far)) → Unmet meta y (near ++ far)
+unmet_out : (meta : Meta) (y a : Operation) (near far : List Operation) → interferes meta y a ≡ false → Unmet meta y (near ++ (a ∷ far))
+    → Unmet meta y (near ++ far)
 unmet_out meta y a [] far out h = h.1 out
 unmet_out meta y a (x ∷ near) far out h = (h.0, λ free. unmet_out meta y a near far out (h.1 free))
 
-settled_put : (meta : Meta) (b : Operation) (later far : List Operation) → Apart meta b later → Unmet meta b far → Settled meta (later ++ far) → Settled meta (later ++ (b ∷ far))
+settled_put : (meta : Meta) (b : Operation) (later far : List Operation) → Apart meta b later → Unmet meta b far → Settled meta (later ++ far)
+    → Settled meta (later ++ (b ∷ far))
 settled_put meta b [] far apart unmet h = (unmet, h)
-settled_put meta b (y ∷ later) far apart unmet h = (unmet_put meta y b later far (apart_none meta b y apart.0) h.0, settled_put meta b later far apart.1 unmet h.1)
+settled_put meta b (y ∷ later) far apart unmet h =
+    (unmet_put meta y b later far (apart_none meta b y apart.0) h.0, settled_put meta b later far apart.1 unmet h.1)
 
 settled_out : (meta : Meta) (a : Operation) (later far : List Operation) → Apart meta a later → Settled meta (later ++ (a ∷ far)) → Settled meta (later ++ far)
 settled_out meta a [] far apart h = h.1
-settled_out meta a (y ∷ later) far apart h = (unmet_out meta y a later far (symmetric_false meta a y (no_clash meta a y apart.0)) h.0, settled_out meta a later far apart.1 h.1)
+settled_out meta a (y ∷ later) far apart h =
+    (unmet_out meta y a later far (symmetric_false meta a y (no_clash meta a y apart.0)) h.0, settled_out meta a later far apart.1 h.1)
 
 unmet_all : (meta : Meta) (b : Operation) (before : List Operation) → Apart meta b before → Unmet meta b before
 unmet_all meta b [] h = tt
 unmet_all meta b (a ∷ before) h = (apart_none_back meta a b h.0, λ _. unmet_all meta b before h.1)
 
-unmet_stop : (meta : Meta) (b a : Operation) (near far : List Operation) → Apart meta b near → met a b ≡ None → interferes meta b a ≡ true → Unmet meta b (near ++ (a ∷ far))
+unmet_stop : (meta : Meta) (b a : Operation) (near far : List Operation) → Apart meta b near → met a b ≡ None → interferes meta b a ≡ true
+    → Unmet meta b (near ++ (a ∷ far))
 unmet_stop meta b a [] far apart none stop = (none, λ out. absurd (true_false (interferes meta b a) stop out))
 unmet_stop meta b a (x ∷ near) far apart none stop = (apart_none_back meta x b apart.0, λ _. unmet_stop meta b a near far apart.1 none stop)
 
@@ -75,19 +80,24 @@ around : (xs ys : List Operation) (a : Operation) → onto (xs ++ (a ∷ ys)) []
 around xs ys a = onto_append xs (a ∷ ys) [] ∙ onto_front ys (a ∷ onto xs [])
 
 -- an operation comes to stand among the others
-pub stays : (meta : Meta) (b : Operation) (front back : List Operation) → Unmet meta b (onto front []) → Apart meta b back → Settled meta (onto (front ++ back) []) → Settled meta (onto (front ++ (b ∷ back)) [])
+pub stays : (meta : Meta) (b : Operation) (front back : List Operation) → Unmet meta b (onto front []) → Apart meta b back
+    → Settled meta (onto (front ++ back) []) → Settled meta (onto (front ++ (b ∷ back)) [])
 stays meta b front back unmet apart h =
-    subst (Settled meta) (sym (around front back b)) (settled_put meta b (onto back []) (onto front []) (apart_onto meta b back [] apart tt) unmet (subst (Settled meta) (turned front back) h))
+    subst (Settled meta) (sym (around front back b))
+    (settled_put meta b (onto back []) (onto front []) (apart_onto meta b back [] apart tt) unmet (subst (Settled meta) (turned front back) h))
 
 pub passes_all : (meta : Meta) (b : Operation) (front : List Operation) → Apart meta b front → Unmet meta b (onto front [])
 passes_all meta b front apart = unmet_all meta b (onto front []) (apart_onto meta b front [] apart tt)
 
-pub passes_stop : (meta : Meta) (b a : Operation) (front mid : List Operation) → Apart meta b mid → met a b ≡ None → touches meta b a ≡ true → Unmet meta b (onto (front ++ (a ∷ mid)) [])
+pub passes_stop : (meta : Meta) (b a : Operation) (front mid : List Operation) → Apart meta b mid → met a b ≡ None → touches meta b a ≡ true
+    → Unmet meta b (onto (front ++ (a ∷ mid)) [])
 passes_stop meta b a front mid apart none touch =
-    subst (Unmet meta b) (sym (around front mid a)) (unmet_stop meta b a (onto mid []) (onto front []) (apart_onto meta b mid [] apart tt) none (touch_stops meta a b touch none))
+    subst (Unmet meta b) (sym (around front mid a))
+    (unmet_stop meta b a (onto mid []) (onto front []) (apart_onto meta b mid [] apart tt) none (touch_stops meta a b touch none))
 
 -- ---- a rule
-module _ (meta : Meta) (a b : Operation) (front mid back : List Operation) (left : Option Operation) (between : Apart meta b mid) (apart : Apart meta b back) (settled : Settled meta (onto ((front ++ (a ∷ mid)) ++ back) [])) (rule : met a b ≡ Some (list_of left)) where
+module _ (meta : Meta) (a b : Operation) (front mid back : List Operation) (left : Option Operation) (between : Apart meta b mid)
+    (apart : Apart meta b back) (settled : Settled meta (onto ((front ++ (a ∷ mid)) ++ back) [])) (rule : met a b ≡ Some (list_of left)) where
   alike : Alike meta a b
   alike = met_alike meta a b (list_of left) rule
 
@@ -118,7 +128,8 @@ module _ (meta : Meta) (a b : Operation) (front mid back : List Operation) (left
     at = append_assoc front (a ∷ mid) (b ∷ (back ++ rest));
     free = apart_free meta b mid between;
     rule = rule;
-    least = settled_rule meta (front ++ (a ∷ mid)) (settled_first meta (onto back []) (onto (front ++ (a ∷ mid)) []) (subst (Settled meta) (turned (front ++ (a ∷ mid)) back) settled));
+    least = settled_rule meta (front ++ (a ∷ mid))
+        (settled_first meta (onto back []) (onto (front ++ (a ∷ mid)) []) (subst (Settled meta) (turned (front ++ (a ∷ mid)) back) settled));
     greatest = apart_unmet meta b mid between;
     gives = refl;
   }

@@ -1,5 +1,6 @@
 -- The test of a reversal, one step more.
-use Rattle.std.proofs.Common.{◌≡◌, ◌≢◌, ℕ, zero, suc, ◌+◌, ◌-◌, ◌<◌, Bool, true, false, List, [], ◌∷◌, ◌++◌, ◌&&◌, refl, sym, ap, ◌∙◌, length, take, drop, get_or, arith, drop-cons, length-append}
+use Rattle.std.proofs.Common.{◌≡◌, ◌≢◌, ℕ, zero, suc, ◌+◌, ◌-◌, ◌<◌, Bool, true, false, List, [], ◌∷◌, ◌++◌, ◌&&◌, refl, sym, ap, ◌∙◌, length, take}
+use Rattle.std.proofs.Common.{drop, get_or, arith, drop-cons, length-append}
 use Rattle.finite_maps.proofs.EqualLaws.{and_second}
 use Rattle.finite_maps.proofs.Cases.{not_so}
 use Rattle.model_state.specs.declared.step.Step.{Step}
@@ -29,9 +30,11 @@ take_more [] k t low is = absurd (omega (arith, low))
 take_more (y ∷ ys) zero t low is = λ i. sym is i ∷ []
 take_more (y ∷ ys) (suc k) t low is = ap (λ l. y ∷ l) (take_more ys k t (omega (arith, low)) is)
 
-module _ (xs ys : List Step) (i : ℕ) (s t : Step) (size : length xs ≡ length ys) (low : i < length xs) (s_is : s ≡ get_or xs i s) (t_is : t ≡ get_or ys (length ys - 1 - i) t) where
+module _ (xs ys : List Step) (i : ℕ) (s t : Step) (size : length xs ≡ length ys) (low : i < length xs) (s_is : s ≡ get_or xs i s)
+    (t_is : t ≡ get_or ys (length ys - 1 - i) t) where
   -- the first of the one and the last of the other, and the rest
-  pub turn : steps_eq (drop i xs) (rev_all (take (length ys - i) ys)) ≡ step_eq s (rev t) && steps_eq (drop (i + 1) xs) (rev_all (take (length ys - (i + 1)) ys))
+  pub turn : steps_eq (drop i xs) (rev_all (take (length ys - i) ys)) ≡ step_eq s (rev t) && steps_eq (drop (i + 1) xs)
+      (rev_all (take (length ys - (i + 1)) ys))
   turn =
       let k = length ys - 1 - i in
       let e : suc i ≡ i + 1 = omega arith in
@@ -39,11 +42,13 @@ module _ (xs ys : List Step) (i : ℕ) (s t : Step) (size : length xs ≡ length
       let same : length ys - (i + 1) ≡ k = omega (arith, size, low) in
       let first : drop i xs ≡ s ∷ drop (i + 1) xs = drop-cons xs i s low ∙ (λ n. sym s_is n ∷ drop (e n) xs) in
       let last : rev_all (take (length ys - i) ys) ≡ rev t ∷ rev_all (take (length ys - (i + 1)) ys) =
-      ap (λ n. rev_all (take n ys)) high ∙ ap rev_all (take_more ys k t (omega (arith, size, low)) t_is) ∙ rev_append (take k ys) (t ∷ []) ∙ ap (λ n. rev t ∷ rev_all (take n ys)) (sym same) in
+      ap (λ n. rev_all (take n ys)) high ∙ ap rev_all (take_more ys k t (omega (arith, size, low)) t_is) ∙ rev_append (take k ys) (t ∷ [])
+      ∙ ap (λ n. rev t ∷ rev_all (take n ys)) (sym same) in
       λ n. steps_eq (first n) (last n)
 
   pub differs : (whole : Bool) → whole ≡ steps_eq (drop i xs) (rev_all (take (length ys - i) ys)) → step_eq s (rev t) ≡ false → false ≡ whole
   differs whole h out = sym (h ∙ turn ∙ ap (λ b. b && steps_eq (drop (i + 1) xs) (rev_all (take (length ys - (i + 1)) ys))) out)
 
-  pub goes_on : (whole : Bool) → whole ≡ steps_eq (drop i xs) (rev_all (take (length ys - i) ys)) → step_eq s (rev t) ≡ true → whole ≡ steps_eq (drop (i + 1) xs) (rev_all (take (length ys - (i + 1)) ys))
+  pub goes_on : (whole : Bool) → whole ≡ steps_eq (drop i xs) (rev_all (take (length ys - i) ys)) → step_eq s (rev t) ≡ true
+      → whole ≡ steps_eq (drop (i + 1) xs) (rev_all (take (length ys - (i + 1)) ys))
   goes_on whole h on = h ∙ turn ∙ ap (λ b. b && steps_eq (drop (i + 1) xs) (rev_all (take (length ys - (i + 1)) ys))) on

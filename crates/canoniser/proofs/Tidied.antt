@@ -21,4 +21,5 @@ not_cut meta p other = not_held (is_tidy meta p) (λ is. true≢false (sym (tidy
 -- else it is tidy where none is taken away
 pub as_many : (meta : Meta) (p : List Operation) → list_all is_single p ≡ true → (b : Bool) → nat_eq (length (tidy meta p)) (length p) ≡ b → b ≡ is_tidy meta p
 as_many meta p single true same = sym ((tidy_test_is_exact meta p).1 (tidy_length meta p single (eqb-true (length (tidy meta p)) (length p) same)))
-as_many meta p single false other = not_held (is_tidy meta p) (λ is. absurd (eqb-false (length (tidy meta p)) (length p) other (ap length ((tidy_test_is_exact meta p).0 is))))
+as_many meta p single false other =
+    not_held (is_tidy meta p) (λ is. absurd (eqb-false (length (tidy meta p)) (length p) other (ap length ((tidy_test_is_exact meta p).0 is))))

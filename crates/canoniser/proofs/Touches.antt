@@ -14,7 +14,8 @@ use Rattle.model_state.specs.declared.operation.Operation.{Operation}
 use Rattle.model_state.specs.declared.operation.Operation.TheVariants.{Simple}
 use Rattle.model_state.specs.Packages.{steps_of}
 use Rattle.model_state.specs.Steps.{rev, rev_all}
-use Rattle.model_laws.specs.Cells.{Cell, OfKind, OfPlace, OfRank, OfAttr, OfRow, OfWhole, About, cell_eq, has, side, place_list, parents_of, step_writes, step_reads, writes_all, reads_all}
+use Rattle.model_laws.specs.Cells.{Cell, OfKind, OfPlace, OfRank, OfAttr, OfRow, OfWhole, About, cell_eq, has, side, place_list, parents_of}
+use Rattle.model_laws.specs.Cells.{step_writes, step_reads, writes_all, reads_all}
 use Rattle.model_laws.proofs.Exchange.{has_append}
 use Rattle.footprint.specs.Interference.{op_writes, op_reads, interferes}
 use Rattle.footprint.proofs.Pairs.{keep_apart, interferes_not}
@@ -52,7 +53,8 @@ pub no_clash : (meta : Meta) (a b : Operation) → touches meta a b ≡ false �
 unfolding interferes
 no_clash meta a b h = or_first (interferes meta a b) (is_none (op_writes meta a) && is_none (op_writes meta b)) h
 
-touches_not : (meta : Meta) (a b : Operation) → interferes meta a b ≡ false → is_none (op_writes meta a) && is_none (op_writes meta b) ≡ false → touches meta a b ≡ false
+touches_not : (meta : Meta) (a b : Operation) → interferes meta a b ≡ false → is_none (op_writes meta a) && is_none (op_writes meta b) ≡ false
+    → touches meta a b ≡ false
 unfolding interferes
 touches_not meta a b h g = ap (λ t. t || (is_none (op_writes meta a) && is_none (op_writes meta b))) h ∙ g
 
@@ -106,7 +108,8 @@ rev_writes meta (Unlink a f ra b rb) c = refl
 rev_writes meta (RerankRow a f b old new) c = refl
 rev_writes meta (New e class place rank) c = refl
 rev_writes meta (Gone e class place rank) c = refl
-rev_writes meta (Move e from from_rank to to_rank above_from above_to) c = ap (λ b. cell_eq c (OfPlace e) || (cell_eq c (OfRank e) || b)) (either_way (place_list meta to) (place_list meta from) c)
+rev_writes meta (Move e from from_rank to to_rank above_from above_to) c =
+    ap (λ b. cell_eq c (OfPlace e) || (cell_eq c (OfRank e) || b)) (either_way (place_list meta to) (place_list meta from) c)
 rev_writes meta (RerankPlace e old new) c = refl
 
 maps_either : {A : Type 0} (f : A → Cell) (xs ys : List A) (c : Cell) → has (map f (xs ++ ys)) c ≡ has (map f (ys ++ xs)) c
@@ -230,7 +233,8 @@ self_apart [] (v ∷ vs) same apart idle = true_false (has (v ∷ vs) v) (has_fi
 self_apart (w ∷ ws) vs same apart idle = true_false (has vs w) (sym (same w) ∙ has_first w ws) (apart w (has_first w ws))
 
 alike_touch : (meta : Meta) (a b : Operation) → Alike meta a b → touches meta a b ≡ false → ⊥
-alike_touch meta a b al h = let k = keep_apart meta a b (no_clash meta a b h) in self_apart (op_writes meta a) (op_writes meta b) al.writes k.written (idle_not meta a b h)
+alike_touch meta a b al h = let k = keep_apart meta a b (no_clash meta a b h)
+    in self_apart (op_writes meta a) (op_writes meta b) al.writes k.written (idle_not meta a b h)
 
 no_left : (o : Option (List Operation)) → ((left : List Operation) → o ≡ Some left → ⊥) → o ≡ None
 no_left None h = refl
@@ -274,5 +278,7 @@ pub touch_stops : (meta : Meta) (a b : Operation) → touches meta b a ≡ true 
 touch_stops meta a b h none =
     elim (interferes meta b a) as (λ t. interferes meta b a ≡ t → t ≡ true) [
       | true ↦ λ _. refl
-      | false ↦ λ out. absurd (true_false (touches meta b a) h (touches_not meta b a out (not_so (is_none (op_writes meta b) && is_none (op_writes meta a)) (λ idle. idle_met meta a b idle none))))
+      | false ↦ λ out. absurd
+          (true_false (touches meta b a) h
+          (touches_not meta b a out (not_so (is_none (op_writes meta b) && is_none (op_writes meta a)) (λ idle. idle_met meta a b idle none))))
     ] refl

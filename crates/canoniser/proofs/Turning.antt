@@ -21,7 +21,8 @@ some_same : {A : Type 0} (x y : A) → Some x ≡ Some y → x ≡ y
 some_same x y h = cc
 
 -- by the last place that touches, and the operations of both
-module _ (stands : List Bool) (prints : List Print) (ops : List Operation) (at i : ℕ) (x y : Operation) (last : (p : Print) → p ≡ get_or prints at p → LastHit stands prints p at i)
+module _ (stands : List Bool) (prints : List Print) (ops : List Operation) (at i : ℕ) (x y : Operation)
+    (last : (p : Print) → p ≡ get_or prints at p → LastHit stands prints p at i)
     (low : i < at) (inside : at < length ops) (x_is : x ≡ get_or ops i x) (y_is : y ≡ get_or ops at y) where
   first : (a : Operation) → a ≡ get_or ops i a → a ≡ x
   first a a_is = op_same ops i a x (omega (arith, low, inside)) a_is x_is
@@ -40,12 +41,15 @@ module _ (stands : List Bool) (prints : List Print) (ops : List Operation) (at i
   is_rule left rule = record { last = last; rule = λ a b a_is b_is. (λ t. met (first a a_is t) (second b b_is t)) ∙ rule }
 
 -- ---- what was found
-module _ (stands : List Bool) (prints : List Print) (ops view : List Operation) (at : ℕ) (seen : view ≡ ops) (r : Option Found) (m : MatchOption r (NoRuleAt stands prints view at) (λ f. RuleAt stands prints view at f.at f.left)) where
+module _ (stands : List Bool) (prints : List Print) (ops view : List Operation) (at : ℕ) (seen : view ≡ ops) (r : Option Found)
+    (m : MatchOption r (NoRuleAt stands prints view at) (λ f. RuleAt stands prints view at f.at f.left)) where
   pub found_of : (f : Found) → r ≡ Some f → RuleAt stands prints ops at f.at f.left
-  found_of f is = subst (λ l. RuleAt stands prints l at f.at f.left) seen (subst (λ o. MatchOption o (NoRuleAt stands prints view at) (λ f. RuleAt stands prints view at f.at f.left)) is m)
+  found_of f is = subst (λ l. RuleAt stands prints l at f.at f.left) seen
+      (subst (λ o. MatchOption o (NoRuleAt stands prints view at) (λ f. RuleAt stands prints view at f.at f.left)) is m)
 
   pub missed_of : r ≡ None → NoRuleAt stands prints ops at
-  missed_of is = subst (λ l. NoRuleAt stands prints l at) seen (subst (λ o. MatchOption o (NoRuleAt stands prints view at) (λ f. RuleAt stands prints view at f.at f.left)) is m)
+  missed_of is = subst (λ l. NoRuleAt stands prints l at) seen
+      (subst (λ o. MatchOption o (NoRuleAt stands prints view at) (λ f. RuleAt stands prints view at f.at f.left)) is m)
 
 -- ---- the loops
 pub on_some : (o : Option ℕ) (i : ℕ) (P : Type 0) (Q : ℕ → Type 0) → MatchOption o P Q → o ≡ Some i → Q i

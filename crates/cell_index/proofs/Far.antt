@@ -16,12 +16,15 @@ use Rattle.cell_index.specs.Near.{list_at, row_of}
 
 none_of : {X : Type 0} (test : X → Bool) (xs : List X) → ((x : X) → Contains xs x → test x ≡ false) → list_any test xs ≡ false
 none_of test [] out = refl
-none_of test (x ∷ xs) out = ap (λ b. b || list_any test xs) (out x (Contains-append_left (x ∷ []) xs x (Contains-push [] x))) ∙ none_of test xs (λ y h. out y (Contains-append_right (x ∷ []) xs y h))
+none_of test (x ∷ xs) out =
+    ap (λ b. b || list_any test xs) (out x (Contains-append_left (x ∷ []) xs x (Contains-push [] x)))
+    ∙ none_of test xs (λ y h. out y (Contains-append_right (x ∷ []) xs y h))
 
 -- lists of cells none of which are the same
 pub apart : (list other : List Held) → ((h g : Held) → Contains list h → Contains other g → seen h ≡ seen g → ⊥) → meets (cells list) (cells other) ≡ false
 apart list other out = sym (held_meets list other) ∙ none_of (λ h. holds other (seen h)) list
-    (λ h in_list. none_of (λ g. cell_eq (seen h) (seen g)) other (λ g in_other. not_so (cell_eq (seen h) (seen g)) (λ e. out h g in_list in_other (cell_exact (seen h) (seen g) e))))
+    (λ h in_list. none_of (λ g. cell_eq (seen h) (seen g)) other
+    (λ g in_other. not_so (cell_eq (seen h) (seen g)) (λ e. out h g in_list in_other (cell_exact (seen h) (seen g) e))))
 
 -- the same cell has the same row
 pub row_same : (t : List (Vec ℕ Global)) (h g : Held) → seen h ≡ seen g → row_of t h ≡ row_of t g

@@ -1,5 +1,6 @@
 -- An operation of the index that interferes with another stands in the list of one of the other's cells.
-use Rattle.std.proofs.Common.{◌≡◌, ℕ, suc, ◌+◌, ◌<◌, Bool, true, false, ◌||◌, List, [], ◌∷◌, ◌++◌, refl, sym, ap, subst, inl, inr, ◌∙◌, take, length, get_or, arith}
+use Rattle.std.proofs.Common.{◌≡◌, ℕ, suc, ◌+◌, ◌<◌, Bool, true, false, ◌||◌, List, [], ◌∷◌, ◌++◌, refl, sym, ap, subst, inl, inr, ◌∙◌, take, length}
+use Rattle.std.proofs.Common.{get_or, arith}
 use Rattle.std.specs.Prelude.{◌⊎◌}
 use Rattle.std.specs.List.{Contains, list_any}
 use Rattle.std.specs.declared.vec.Vec.{Vec}
@@ -30,15 +31,25 @@ module _ (index : CellIndex) (prints : List Print) (p : Print) (w r : List Held)
       let q : Print = get_or prints k p in
       let q_is : q ≡ get_or prints k q = print_same prints k p q met.low in
       let written : meets (cells p.writes) (cells q.writes) ≡ false =
-      apart p.writes q.writes (λ h g a b e. ww h (subst (λ l. Contains l h) (sym w_is) a) (subst (λ x. Contains (row_of x h) k) (sym s_is) (subst (λ l. Contains l k) (sym (row_same index.writers.items h g e)) (ix.writers k q met.low q_is g b)))) in
+      apart p.writes q.writes
+      (λ h g a b e. ww h (subst (λ l. Contains l h) (sym w_is) a)
+      (subst (λ x. Contains (row_of x h) k) (sym s_is)
+      (subst (λ l. Contains l k) (sym (row_same index.writers.items h g e)) (ix.writers k q met.low q_is g b)))) in
       let second : meets (cells p.writes) (cells q.reads) ≡ false =
-      apart p.writes q.reads (λ h g a b e. wr h (subst (λ l. Contains l h) (sym w_is) a) (subst (λ x. Contains (row_of x h) k) (sym t_is) (subst (λ l. Contains l k) (sym (row_same index.readers.items h g e)) (ix.readers k q met.low q_is g b)))) in
+      apart p.writes q.reads
+      (λ h g a b e. wr h (subst (λ l. Contains l h) (sym w_is) a)
+      (subst (λ x. Contains (row_of x h) k) (sym t_is)
+      (subst (λ l. Contains l k) (sym (row_same index.readers.items h g e)) (ix.readers k q met.low q_is g b)))) in
       let first : meets (cells q.writes) (cells p.reads) ≡ false =
-      apart q.writes p.reads (λ h g a b e. rw' g (subst (λ l. Contains l g) (sym r_is) b) (subst (λ x. Contains (row_of x g) k) (sym u_is) (subst (λ l. Contains l k) (row_same index.writers.items h g e) (ix.writers k q met.low q_is h a)))) in
+      apart q.writes p.reads
+      (λ h g a b e. rw' g (subst (λ l. Contains l g) (sym r_is) b)
+      (subst (λ x. Contains (row_of x g) k) (sym u_is)
+      (subst (λ l. Contains l k) (row_same index.writers.items h g e) (ix.writers k q met.low q_is h a)))) in
       true_false (prints_interfere p q) met.meets (λ i. written i || (second i || first i))
 
 -- ---- whether any is met
-any_none : (test : Print → Bool) (prints : List Print) (p : Print) → ((k : ℕ) → k < length prints → test (get_or prints k p) ≡ true → ⊥) → list_any test prints ≡ false
+any_none : (test : Print → Bool) (prints : List Print) (p : Print) → ((k : ℕ) → k < length prints → test (get_or prints k p) ≡ true → ⊥)
+    → list_any test prints ≡ false
 any_none test [] p none = refl
 any_none test (x ∷ prints) p none =
     ap (λ b. b || list_any test prints) (not_so (test x) (λ e. none 0 (omega arith) e))
@@ -51,7 +62,8 @@ pub meets_none : (prints : List Print) (p : Print) → ((k : ℕ) → IsMet prin
 meets_none prints p none = sym (any_none (prints_interfere p) prints p (λ k low on. none k (record { low = low; meets = on })))
 
 -- by what the last search found
-pub meets_by : (prints : List Print) (p : Print) (found : Bool) → (found ≡ true → (k : ℕ) × IsMet prints p k) → (found ≡ false → false ≡ list_any (prints_interfere p) prints) → found ≡ list_any (prints_interfere p) prints
+pub meets_by : (prints : List Print) (p : Print) (found : Bool) → (found ≡ true → (k : ℕ) × IsMet prints p k)
+    → (found ≡ false → false ≡ list_any (prints_interfere p) prints) → found ≡ list_any (prints_interfere p) prints
 meets_by prints p true met none = meets_one prints p (met refl)
 meets_by prints p false met none = none refl
 

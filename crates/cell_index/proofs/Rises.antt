@@ -1,5 +1,6 @@
 -- Lists that rise, and what a search from their end passes.
-use Rattle.std.proofs.Common.{◌≡◌, ℕ, zero, suc, ◌-◌, ◌<◌, ◌≤◌, List, [], ◌∷◌, ◌++◌, refl, sym, ap, subst, inl, inr, ◌∙◌, drop, length, get_or, set, arith, length-set}
+use Rattle.std.proofs.Common.{◌≡◌, ℕ, zero, suc, ◌-◌, ◌<◌, ◌≤◌, List, [], ◌∷◌, ◌++◌, refl, sym, ap, subst, inl, inr, ◌∙◌, drop, length, get_or, set}
+use Rattle.std.proofs.Common.{arith, length-set}
 use Rattle.std.specs.List.{Contains}
 use Rattle.std.specs.Prelude.{◌⊎◌, Option}
 use Rattle.std.specs.Option.{option_to_list}
@@ -57,16 +58,20 @@ rise_later low high (x ∷ xs) (suc i) k inside h up has_k = elim (first_or_rest
 ]
 
 -- what is above the number of a place is no hit, where none after it is
-pub passed_above : (xs : List ℕ) (i : ℕ) (hits : ℕ → Type 0) (low : 0 < i) (inside : i ≤ length xs) (passed : (k : ℕ) → Contains (drop i xs) k → hits k → ⊥) (high k : ℕ) → Rise 0 high xs → get_or xs (i - 1) 0 < k → Contains xs k → hits k → ⊥
-passed_above xs i hits low inside passed high k rise up has_k hit = passed k (subst (λ n. Contains (drop n xs) k) (next i low) (rise_later 0 high xs (i - 1) k (omega (arith, low, inside)) rise up has_k)) hit
+pub passed_above : (xs : List ℕ) (i : ℕ) (hits : ℕ → Type 0) (low : 0 < i) (inside : i ≤ length xs)
+    (passed : (k : ℕ) → Contains (drop i xs) k → hits k → ⊥) (high k : ℕ) → Rise 0 high xs → get_or xs (i - 1) 0 < k → Contains xs k → hits k → ⊥
+passed_above xs i hits low inside passed high k rise up has_k hit =
+    passed k (subst (λ n. Contains (drop n xs) k) (next i low) (rise_later 0 high xs (i - 1) k (omega (arith, low, inside)) rise up has_k)) hit
   where
     next : (i : ℕ) → 0 < i → suc (i - 1) ≡ i
     next i low = omega (arith, low)
 
 -- ---- tables
-pub put_rising : (t made : List (Vec ℕ Global)) (s k : ℕ) (v w : Vec ℕ Global) → s < length t → v ≡ get_or t s v → w.items ≡ v.items ++ k ∷ [] → made ≡ set t s w → Rising t k → Rising made k
+pub put_rising : (t made : List (Vec ℕ Global)) (s k : ℕ) (v w : Vec ℕ Global) → s < length t → v ≡ get_or t s v → w.items ≡ v.items ++ k ∷ []
+    → made ≡ set t s w → Rising t k → Rising made k
 put_rising t made s k v w low is more out h r = same_or_not r s
-    (λ e. subst (Rise 0 k) (sym (ap (λ m. list_at m r) out ∙ ap (list_at (set t s w)) e ∙ at_same t s w low ∙ more)) (rise_push 0 k v.items (subst (Rise 0 k) (list_here t s v low is) (h s))))
+    (λ e. subst (Rise 0 k) (sym (ap (λ m. list_at m r) out ∙ ap (list_at (set t s w)) e ∙ at_same t s w low ∙ more))
+    (rise_push 0 k v.items (subst (Rise 0 k) (list_here t s v low is) (h s))))
     (λ f. subst (Rise 0 k) (sym (ap (λ m. list_at m r) out ∙ at_other t s r w f)) (h r))
 
 pub out_without : (t made : List (Vec ℕ Global)) (s k : ℕ) (v w : Vec ℕ Global) → s < length t → v ≡ get_or t s v → made ≡ set t s w
@@ -74,10 +79,12 @@ pub out_without : (t made : List (Vec ℕ Global)) (s k : ℕ) (v w : Vec ℕ Gl
 out_without t made s k v w low is out kept rise = record {
   size = ap length out ∙ length-set t s w;
   kept = λ r j other h. same_or_not r s
-      (λ e. subst (λ l. Contains l j) (sym (ap (λ m. list_at m r) out ∙ ap (list_at (set t s w)) e ∙ at_same t s w low)) (kept j other (subst (λ l. Contains l j) (ap (list_at t) e ∙ list_here t s v low is) h)))
+      (λ e. subst (λ l. Contains l j) (sym (ap (λ m. list_at m r) out ∙ ap (list_at (set t s w)) e ∙ at_same t s w low))
+      (kept j other (subst (λ l. Contains l j) (ap (list_at t) e ∙ list_here t s v low is) h)))
       (λ f. subst (λ l. Contains l j) (sym (ap (λ m. list_at m r) out ∙ at_other t s r w f)) h);
   rising = λ high h r. same_or_not r s
-      (λ e. subst (Rise 0 high) (sym (ap (λ m. list_at m r) out ∙ ap (list_at (set t s w)) e ∙ at_same t s w low)) (rise high (subst (Rise 0 high) (list_here t s v low is) (h s))))
+      (λ e. subst (Rise 0 high) (sym (ap (λ m. list_at m r) out ∙ ap (list_at (set t s w)) e ∙ at_same t s w low))
+      (rise high (subst (Rise 0 high) (list_here t s v low is) (h s))))
       (λ f. subst (Rise 0 high) (sym (ap (λ m. list_at m r) out ∙ at_other t s r w f)) (h r));
 }
 

@@ -1,5 +1,6 @@
 -- Lists of places by slots.
-use Rattle.std.proofs.Common.{◌≡◌, ℕ, zero, suc, ◌+◌, ◌<◌, ◌≤◌, List, [], ◌∷◌, ◌++◌, refl, sym, ap, subst, inl, inr, ◌∙◌, take, length, get_or, set, arith, length-set, ◌%◌}
+use Rattle.std.proofs.Common.{◌≡◌, ℕ, zero, suc, ◌+◌, ◌<◌, ◌≤◌, List, [], ◌∷◌, ◌++◌, refl, sym, ap, subst, inl, inr, ◌∙◌, take, length, get_or, set}
+use Rattle.std.proofs.Common.{arith, length-set, ◌%◌}
 use Rattle.std.specs.List.{Contains}
 use Rattle.std.specs.Prelude.{◌⊎◌}
 use Rattle.std.specs.declared.vec.Vec.{Vec}
@@ -46,7 +47,8 @@ same_or_not zero (suc s) same other = other (λ e. cc)
 same_or_not (suc r) zero same other = other (λ e. cc)
 same_or_not (suc r) (suc s) same other = same_or_not r s (λ e. same (ap suc e)) (λ f. other (λ e. f (cc)))
 
-pub put_wider : (t made : List (Vec ℕ Global)) (s k : ℕ) (v w : Vec ℕ Global) → s < length t → v ≡ get_or t s v → w.items ≡ v.items ++ k ∷ [] → made ≡ set t s w → Wider t made
+pub put_wider : (t made : List (Vec ℕ Global)) (s k : ℕ) (v w : Vec ℕ Global) → s < length t → v ≡ get_or t s v → w.items ≡ v.items ++ k ∷ []
+    → made ≡ set t s w → Wider t made
 put_wider t made s k v w low is more out = record {
   size = ap length out ∙ length-set t s w;
   kept = λ r x h. same_or_not r s
@@ -55,7 +57,8 @@ put_wider t made s k v w low is more out = record {
       (λ f. subst (λ l. Contains l x) (sym (ap (λ m. list_at m r) out ∙ at_other t s r w f)) h);
 }
 
-pub put_listed : (t made : List (Vec ℕ Global)) (s k : ℕ) (v w : Vec ℕ Global) → s < length t → w.items ≡ v.items ++ k ∷ [] → made ≡ set t s w → Contains (list_at made s) k
+pub put_listed : (t made : List (Vec ℕ Global)) (s k : ℕ) (v w : Vec ℕ Global) → s < length t → w.items ≡ v.items ++ k ∷ [] → made ≡ set t s w
+    → Contains (list_at made s) k
 put_listed t made s k v w low more out = subst (λ l. Contains l k) (sym (ap (λ m. list_at m s) out ∙ at_same t s w low ∙ more)) (Contains-push v.items k)
 
 pub wider_on : (t u v : List (Vec ℕ Global)) → Wider t u → Wider u v → Wider t v
@@ -65,11 +68,13 @@ wider_on t u v a b = record { size = b.size ∙ a.size; kept = λ s k h. b.kept 
 pub row_kept : (t made : List (Vec ℕ Global)) (h : Held) (k : ℕ) → Wider t made → Contains (row_of t h) k → Contains (row_of made h) k
 row_kept t made h k w is = subst (λ n. Contains (list_at made (cell_key (seen h) % n)) k) (sym w.size) (w.kept (cell_key (seen h) % length t) k is)
 
-pub row_is : (t : List (Vec ℕ Global)) (y h : Held) (s : ℕ) (v : Vec ℕ Global) → s < length t → v ≡ get_or t s v → s ≡ cell_key (seen y) % length t → y ≡ h → row_of t h ≡ v.items
+pub row_is : (t : List (Vec ℕ Global)) (y h : Held) (s : ℕ) (v : Vec ℕ Global) → s < length t → v ≡ get_or t s v → s ≡ cell_key (seen y) % length t
+    → y ≡ h → row_of t h ≡ v.items
 row_is t y h s v low is slot same = ap (λ (x : Held). list_at t (cell_key (seen x) % length t)) (sym same) ∙ ap (list_at t) (sym slot) ∙ list_here t s v low is
 
 -- one cell more, whose list has the place
-pub row_more : (t made : List (Vec ℕ Global)) (cs : List Held) (i k s n : ℕ) (y h : Held) → i < length cs → y ≡ get_or cs i y → Wider t made → Contains (list_at made s) k → s ≡ cell_key (seen y) % n → n ≡ length t
+pub row_more : (t made : List (Vec ℕ Global)) (cs : List Held) (i k s n : ℕ) (y h : Held) → i < length cs → y ≡ get_or cs i y → Wider t made
+    → Contains (list_at made s) k → s ≡ cell_key (seen y) % n → n ≡ length t
     → Listed t (take i cs) k → Contains (take (i + 1) cs) h → Contains (row_of made h) k
 row_more t made cs i k s n y h low is w put slot size before more = elim (taken cs i h y low is more) [
   | inl b ↦ row_kept t made h k w (before h b)
@@ -83,8 +88,10 @@ defaults (z ∷ xs) zero x y h = refl
 defaults (z ∷ xs) (suc i) x y h = defaults xs i x y (omega (arith, h))
 
 -- one print more, whose cells' lists have its place
-pub print_more : (which : Print → List Held) (t made : List (Vec ℕ Global)) (prints : List Print) (i : ℕ) (q : Print) (cs : List Held) → i < length prints → q ≡ get_or prints i q → cs ≡ which q → Wider t made → Listed made cs i
-    → ((k : ℕ) (p : Print) → k < i → p ≡ get_or prints k p → Listed t (which p) k) → (k : ℕ) (p : Print) → k < i + 1 → p ≡ get_or prints k p → Listed made (which p) k
+pub print_more : (which : Print → List Held) (t made : List (Vec ℕ Global)) (prints : List Print) (i : ℕ) (q : Print) (cs : List Held)
+    → i < length prints → q ≡ get_or prints i q → cs ≡ which q → Wider t made → Listed made cs i
+    → ((k : ℕ) (p : Print) → k < i → p ≡ get_or prints k p → Listed t (which p) k) → (k : ℕ) (p : Print) → k < i + 1 → p ≡ get_or prints k p
+    → Listed made (which p) k
 print_more which t made prints i q cs low is all w put before k p below p_is = same_or_not k i
     (λ e.
     let same : q ≡ p = is ∙ defaults prints i q p low ∙ ap (λ n. get_or prints n p) (sym e) ∙ sym p_is in

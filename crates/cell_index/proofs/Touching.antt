@@ -1,5 +1,6 @@
 -- What an index keeps as operations are added and removed, and the last that touches another.
-use Rattle.std.proofs.Common.{◌≡◌, ℕ, zero, suc, ◌-◌, ◌<◌, ◌≤◌, Bool, true, false, ◌||◌, ◌&&◌, ◌%◌, nat_eq, List, [], ◌∷◌, ◌++◌, refl, sym, ap, subst, inl, inr, ◌∙◌, length, get_or, set, arith, length-set, length-append}
+use Rattle.std.proofs.Common.{◌≡◌, ℕ, zero, suc, ◌-◌, ◌<◌, ◌≤◌, Bool, true, false, ◌||◌, ◌&&◌, ◌%◌, nat_eq, List, [], ◌∷◌, ◌++◌, refl, sym, ap, subst}
+use Rattle.std.proofs.Common.{inl, inr, ◌∙◌, length, get_or, set, arith, length-set, length-append}
 use Rattle.std.specs.Prelude.{◌⊎◌}
 use Rattle.std.specs.List.{Contains}
 use Rattle.std.specs.declared.vec.Vec.{Vec}
@@ -37,7 +38,8 @@ unfolding cells
 length_none [] h = refl
 length_none (c ∷ list) h = absurd (true_false false h refl)
 
-module _ (p q : Print) (hit : Bool) (n : ℕ) (tells : hit ≡ cells_interfere (cells p.writes) (cells p.reads) (cells q.writes) (cells q.reads)) (out : hit ≡ false) (size : n ≡ length p.writes) where
+module _ (p q : Print) (hit : Bool) (n : ℕ) (tells : hit ≡ cells_interfere (cells p.writes) (cells p.reads) (cells q.writes) (cells q.reads))
+    (out : hit ≡ false) (size : n ≡ length p.writes) where
   pub touch_both : (m : ℕ) → n ≡ 0 → m ≡ length q.writes → nat_eq m 0 ≡ prints_touch p q
   touch_both m none many =
       let second : is_none (cells q.writes) ≡ nat_eq m 0 = none_length q.writes ∙ ap (λ k. nat_eq k 0) (sym many) in
@@ -78,11 +80,16 @@ print_same (x ∷ prints) (suc k) p q low = print_same prints k p q (omega (arit
 listed_wider : (t made : List (Vec ℕ Global)) (cs : List Held) (k : ℕ) → Wider t made → Listed t cs k → Listed made cs k
 listed_wider t made cs k w h c has_c = row_kept t made c k w (h c has_c)
 
-module _ (old new : Standing) (prints : List Print) (q : Print) (is : ListsStanding old prints) (below : length old.stands.items < length prints) (q_is : q ≡ get_or prints (length old.stands.items) q)
+module _ (old new : Standing) (prints : List Print) (q : Print) (is : ListsStanding old prints) (below : length old.stands.items < length prints)
+    (q_is : q ≡ get_or prints (length old.stands.items) q)
     (stands : new.stands.items ≡ old.stands.items ++ true ∷ [])
-    (w_wider : Wider old.index.writers.items new.index.writers.items) (w_listed : Listed new.index.writers.items q.writes (length old.stands.items)) (w_rising : Rising new.index.writers.items (length old.stands.items))
-    (r_wider : Wider old.index.readers.items new.index.readers.items) (r_listed : Listed new.index.readers.items q.reads (length old.stands.items)) (r_rising : Rising new.index.readers.items (length old.stands.items))
-    (i_kept : (k : ℕ) → Contains old.idle.items k → Contains new.idle.items k) (i_new : is_none (cells q.writes) ≡ true → Contains new.idle.items (length old.stands.items)) (i_rise : Rise 0 (length old.stands.items) new.idle.items) where
+    (w_wider : Wider old.index.writers.items new.index.writers.items) (w_listed : Listed new.index.writers.items q.writes (length old.stands.items))
+    (w_rising : Rising new.index.writers.items (length old.stands.items))
+    (r_wider : Wider old.index.readers.items new.index.readers.items) (r_listed : Listed new.index.readers.items q.reads (length old.stands.items))
+    (r_rising : Rising new.index.readers.items (length old.stands.items))
+    (i_kept : (k : ℕ) → Contains old.idle.items k → Contains new.idle.items k)
+    (i_new : is_none (cells q.writes) ≡ true → Contains new.idle.items (length old.stands.items))
+    (i_rise : Rise 0 (length old.stands.items) new.idle.items) where
   long : length new.stands.items ≡ suc (length old.stands.items)
   long = let made = ap length stands in let sum = length-append old.stands.items (true ∷ []) in omega (arith, made, sum)
 
@@ -93,7 +100,8 @@ module _ (old new : Standing) (prints : List Print) (q : Print) (is : ListsStand
   here : (k : ℕ) (p : Print) → k ≡ length old.stands.items → p ≡ get_or prints k p → q ≡ p
   here k p e p_is = q_is ∙ print_same prints (length old.stands.items) q p below ∙ ap (λ n. get_or prints n p) (sym e) ∙ sym p_is
 
-  listed : (which : Print → List Held) (t made : List (Vec ℕ Global)) → Wider t made → Listed made (which q) (length old.stands.items) → ((k : ℕ) (p : Print) → get_or old.stands.items k false ≡ true → p ≡ get_or prints k p → Listed t (which p) k)
+  listed : (which : Print → List Held) (t made : List (Vec ℕ Global)) → Wider t made → Listed made (which q) (length old.stands.items)
+      → ((k : ℕ) (p : Print) → get_or old.stands.items k false ≡ true → p ≡ get_or prints k p → Listed t (which p) k)
       → (k : ℕ) (p : Print) → get_or new.stands.items k false ≡ true → p ≡ get_or prints k p → Listed made (which p) k
   listed which t made wider put before k p on p_is = elim (flag_pushed old.stands.items k (subst (λ l. get_or l k false ≡ true) stands on)) [
     | inl g ↦ listed_wider t made (which p) k wider (before k p g p_is)
@@ -117,27 +125,37 @@ module _ (old new : Standing) (prints : List Print) (q : Print) (is : ListsStand
   }
 
 -- by the calls that put it
-pub put_by : (old new : Standing) (prints : List Print) (q : Print) (n : ℕ) → ListsStanding old prints → length old.stands.items < length prints → n ≡ length old.stands.items → q ≡ get_or prints n q → new.stands.items ≡ old.stands.items ++ true ∷ []
+pub put_by : (old new : Standing) (prints : List Print) (q : Print) (n : ℕ) → ListsStanding old prints → length old.stands.items < length prints
+    → n ≡ length old.stands.items → q ≡ get_or prints n q → new.stands.items ≡ old.stands.items ++ true ∷ []
     → (w r v : List Held) → w ≡ q.writes → r ≡ q.reads → v ≡ q.writes
-    → Wider old.index.writers.items new.index.writers.items → Listed new.index.writers.items w n → (Rising old.index.writers.items n → Rising new.index.writers.items n)
-    → Wider old.index.readers.items new.index.readers.items → Listed new.index.readers.items r n → (Rising old.index.readers.items n → Rising new.index.readers.items n)
-    → ((k : ℕ) → Contains old.idle.items k → Contains new.idle.items k) → (is_none (cells v) ≡ true → Contains new.idle.items n) → (Rise 0 n old.idle.items → Rise 0 n new.idle.items) → ListsStanding new prints
+    → Wider old.index.writers.items new.index.writers.items → Listed new.index.writers.items w n
+    → (Rising old.index.writers.items n → Rising new.index.writers.items n)
+    → Wider old.index.readers.items new.index.readers.items → Listed new.index.readers.items r n
+    → (Rising old.index.readers.items n → Rising new.index.readers.items n)
+    → ((k : ℕ) → Contains old.idle.items k → Contains new.idle.items k) → (is_none (cells v) ≡ true → Contains new.idle.items n)
+    → (Rise 0 n old.idle.items → Rise 0 n new.idle.items) → ListsStanding new prints
 put_by old new prints q n is below at q_is stands w r v w_is r_is v_is ww wl wr rw' rl rr ik il ir =
     put_keeps old new prints q is below (q_is ∙ ap (λ k. get_or prints k q) at) stands
-    ww (λ h has_h. subst (Contains (row_of new.index.writers.items h)) at (wl h (subst (λ l. Contains l h) (sym w_is) has_h))) (subst (Rising new.index.writers.items) at (wr (subst (Rising old.index.writers.items) (sym at) is.rising_writers)))
-    rw' (λ h has_h. subst (Contains (row_of new.index.readers.items h)) at (rl h (subst (λ l. Contains l h) (sym r_is) has_h))) (subst (Rising new.index.readers.items) at (rr (subst (Rising old.index.readers.items) (sym at) is.rising_readers)))
-    ik (λ none. subst (Contains new.idle.items) at (il (ap (λ l. is_none (cells l)) v_is ∙ none))) (subst (λ k. Rise 0 k new.idle.items) at (ir (subst (λ k. Rise 0 k old.idle.items) (sym at) is.rising_idle)))
+    ww (λ h has_h. subst (Contains (row_of new.index.writers.items h)) at (wl h (subst (λ l. Contains l h) (sym w_is) has_h)))
+    (subst (Rising new.index.writers.items) at (wr (subst (Rising old.index.writers.items) (sym at) is.rising_writers)))
+    rw' (λ h has_h. subst (Contains (row_of new.index.readers.items h)) at (rl h (subst (λ l. Contains l h) (sym r_is) has_h)))
+    (subst (Rising new.index.readers.items) at (rr (subst (Rising old.index.readers.items) (sym at) is.rising_readers)))
+    ik (λ none. subst (Contains new.idle.items) at (il (ap (λ l. is_none (cells l)) v_is ∙ none)))
+    (subst (λ k. Rise 0 k new.idle.items) at (ir (subst (λ k. Rise 0 k old.idle.items) (sym at) is.rising_idle)))
 
 -- ---- an operation less
 listed_without : (t made : List (Vec ℕ Global)) (cs : List Held) (k p : ℕ) → Without t made p → (k ≡ p → ⊥) → Listed t cs k → Listed made cs k
 listed_without t made cs k p w other h c has_c = row_without t made c k p w other (h c has_c)
   where
     row_without : (t made : List (Vec ℕ Global)) (c : Held) (k p : ℕ) → Without t made p → (k ≡ p → ⊥) → Contains (row_of t c) k → Contains (row_of made c) k
-    row_without t made c k p w other is = subst (λ n. Contains (list_at made (cell_key (seen c) % n)) k) (sym w.size) (w.kept (cell_key (seen c) % length t) k other is)
+    row_without t made c k p w other is =
+        subst (λ n. Contains (list_at made (cell_key (seen c) % n)) k) (sym w.size) (w.kept (cell_key (seen c) % length t) k other is)
 
-module _ (old new : Standing) (prints : List Print) (p : ℕ) (is : ListsStanding old prints) (low : p < length old.stands.items) (stands : new.stands.items ≡ set old.stands.items p false)
+module _ (old new : Standing) (prints : List Print) (p : ℕ) (is : ListsStanding old prints) (low : p < length old.stands.items)
+    (stands : new.stands.items ≡ set old.stands.items p false)
     (w_out : Without old.index.writers.items new.index.writers.items p) (r_out : Without old.index.readers.items new.index.readers.items p)
-    (i_kept : (k : ℕ) → (k ≡ p → ⊥) → Contains old.idle.items k → Contains new.idle.items k) (i_rise : (high : ℕ) → Rise 0 high old.idle.items → Rise 0 high new.idle.items) where
+    (i_kept : (k : ℕ) → (k ≡ p → ⊥) → Contains old.idle.items k → Contains new.idle.items k)
+    (i_rise : (high : ℕ) → Rise 0 high old.idle.items → Rise 0 high new.idle.items) where
   as_long : length new.stands.items ≡ length old.stands.items
   as_long = ap length stands ∙ length-set old.stands.items p false
 
@@ -149,16 +167,22 @@ module _ (old new : Standing) (prints : List Print) (p : ℕ) (is : ListsStandin
     rising_writers = subst (Rising new.index.writers.items) (sym as_long) (w_out.rising (length old.stands.items) is.rising_writers);
     rising_readers = subst (Rising new.index.readers.items) (sym as_long) (r_out.rising (length old.stands.items) is.rising_readers);
     rising_idle = subst (λ n. Rise 0 n new.idle.items) (sym as_long) (i_rise (length old.stands.items) is.rising_idle);
-    writers = λ k q on q_is. let f = flag_out old.stands.items p k low (subst (λ l. get_or l k false ≡ true) stands on) in listed_without old.index.writers.items new.index.writers.items q.writes k p w_out f.1 (is.writers k q f.0 q_is);
-    readers = λ k q on q_is. let f = flag_out old.stands.items p k low (subst (λ l. get_or l k false ≡ true) stands on) in listed_without old.index.readers.items new.index.readers.items q.reads k p r_out f.1 (is.readers k q f.0 q_is);
-    idle = λ k q on q_is none. let f = flag_out old.stands.items p k low (subst (λ l. get_or l k false ≡ true) stands on) in i_kept k f.1 (is.idle k q f.0 q_is none);
+    writers = λ k q on q_is. let f = flag_out old.stands.items p k low (subst (λ l. get_or l k false ≡ true) stands on)
+        in listed_without old.index.writers.items new.index.writers.items q.writes k p w_out f.1 (is.writers k q f.0 q_is);
+    readers = λ k q on q_is. let f = flag_out old.stands.items p k low (subst (λ l. get_or l k false ≡ true) stands on)
+        in listed_without old.index.readers.items new.index.readers.items q.reads k p r_out f.1 (is.readers k q f.0 q_is);
+    idle = λ k q on q_is none. let f = flag_out old.stands.items p k low (subst (λ l. get_or l k false ≡ true) stands on)
+        in i_kept k f.1 (is.idle k q f.0 q_is none);
   }
 
 -- ---- the last that touches
 module _ (standing : Standing) (prints : List Print) (p : Print) (at end : ℕ) (is : ListsStanding standing prints)
-    (ww : (h : Held) → Contains p.writes h → (k : ℕ) → Contains (row_of standing.index.writers.items h) k → end ≤ k → Hit standing.stands.items prints p at k → ⊥)
-    (wr : (h : Held) → Contains p.writes h → (k : ℕ) → Contains (row_of standing.index.readers.items h) k → end ≤ k → Hit standing.stands.items prints p at k → ⊥)
-    (rw : (h : Held) → Contains p.reads h → (k : ℕ) → Contains (row_of standing.index.writers.items h) k → end ≤ k → Hit standing.stands.items prints p at k → ⊥)
+    (ww : (h : Held) → Contains p.writes h → (k : ℕ) → Contains (row_of standing.index.writers.items h) k → end ≤ k
+    → Hit standing.stands.items prints p at k → ⊥)
+    (wr : (h : Held) → Contains p.writes h → (k : ℕ) → Contains (row_of standing.index.readers.items h) k → end ≤ k
+    → Hit standing.stands.items prints p at k → ⊥)
+    (rw : (h : Held) → Contains p.reads h → (k : ℕ) → Contains (row_of standing.index.writers.items h) k → end ≤ k
+    → Hit standing.stands.items prints p at k → ⊥)
     (ii : is_none (cells p.writes) ≡ true → (k : ℕ) → Contains standing.idle.items k → end ≤ k → Hit standing.stands.items prints p at k → ⊥) where
   none_past : (k : ℕ) → end ≤ k → Hit standing.stands.items prints p at k → ⊥
   none_past k far hit =
@@ -167,11 +191,18 @@ module _ (standing : Standing) (prints : List Print) (p : Print) (at end : ℕ) 
       let q_is : q ≡ get_or prints k q = print_same prints k p q inside in
       let ws = is.writers k q hit.there q_is in
       let rs = is.readers k q hit.there q_is in
-      let written : meets (cells p.writes) (cells q.writes) ≡ false = apart p.writes q.writes (λ h g a b e. ww h a k (subst (λ l. Contains l k) (sym (row_same standing.index.writers.items h g e)) (ws g b)) far hit) in
-      let second : meets (cells p.writes) (cells q.reads) ≡ false = apart p.writes q.reads (λ h g a b e. wr h a k (subst (λ l. Contains l k) (sym (row_same standing.index.readers.items h g e)) (rs g b)) far hit) in
-      let first : meets (cells q.writes) (cells p.reads) ≡ false = apart q.writes p.reads (λ h g a b e. rw g b k (subst (λ l. Contains l k) (row_same standing.index.writers.items h g e) (ws h a)) far hit) in
+      let written : meets (cells p.writes) (cells q.writes) ≡ false =
+      apart p.writes q.writes
+      (λ h g a b e. ww h a k (subst (λ l. Contains l k) (sym (row_same standing.index.writers.items h g e)) (ws g b)) far hit) in
+      let second : meets (cells p.writes) (cells q.reads) ≡ false =
+      apart p.writes q.reads
+      (λ h g a b e. wr h a k (subst (λ l. Contains l k) (sym (row_same standing.index.readers.items h g e)) (rs g b)) far hit) in
+      let first : meets (cells q.writes) (cells p.reads) ≡ false =
+      apart q.writes p.reads (λ h g a b e. rw g b k (subst (λ l. Contains l k) (row_same standing.index.writers.items h g e) (ws h a)) far hit) in
       let both : is_none (cells p.writes) && is_none (cells q.writes) ≡ false =
-      not_so (is_none (cells p.writes) && is_none (cells q.writes)) (λ none. ii (one_none (is_none (cells p.writes)) (is_none (cells q.writes)) none).0 k (is.idle k q hit.there q_is (one_none (is_none (cells p.writes)) (is_none (cells q.writes)) none).1) far hit) in
+      not_so (is_none (cells p.writes) && is_none (cells q.writes))
+      (λ none. ii (one_none (is_none (cells p.writes)) (is_none (cells q.writes)) none).0 k
+      (is.idle k q hit.there q_is (one_none (is_none (cells p.writes)) (is_none (cells q.writes)) none).1) far hit) in
       true_false (prints_touch p q) hit.near (λ i. (written i || (second i || first i)) || both i)
     where
       one_none : (a b : Bool) → a && b ≡ true → (a ≡ true) × (b ≡ true)
@@ -191,26 +222,32 @@ hit_on P floor mid end up later before low = same_or_not mid end
     (λ e. subst (λ n. P (n - 1)) e (before (omega (arith, e, low))))
     (λ f. later (omega (arith, f, up)))
 
-module _ (standing : Standing) (prints : List Print) (p : Print) (at e1 e2 e3 e4 : ℕ) (w r : List Held) (s t u : List (Vec ℕ Global)) (is : ListsStanding standing prints)
-    (w_is : w ≡ p.writes) (r_is : r ≡ p.reads) (s_is : s ≡ standing.index.writers.items) (t_is : t ≡ standing.index.readers.items) (u_is : u ≡ standing.index.writers.items)
+module _ (standing : Standing) (prints : List Print) (p : Print) (at e1 e2 e3 e4 : ℕ) (w r : List Held) (s t u : List (Vec ℕ Global))
+    (is : ListsStanding standing prints)
+    (w_is : w ≡ p.writes) (r_is : r ≡ p.reads) (s_is : s ≡ standing.index.writers.items) (t_is : t ≡ standing.index.readers.items)
+    (u_is : u ≡ standing.index.writers.items)
     (up2 : e1 ≤ e2) (up3 : e2 ≤ e3) (up4 : e3 ≤ e4)
     (c1 : (h : Held) → Contains w h → (k : ℕ) → Contains (row_of s h) k → e1 ≤ k → Hit standing.stands.items prints p at k → ⊥)
     (c2 : (h : Held) → Contains w h → (k : ℕ) → Contains (row_of t h) k → e2 ≤ k → Hit standing.stands.items prints p at k → ⊥)
     (c3 : (h : Held) → Contains r h → (k : ℕ) → Contains (row_of u h) k → e3 ≤ k → Hit standing.stands.items prints p at k → ⊥)
     (c4 : is_none (cells p.writes) ≡ true → (k : ℕ) → Contains standing.idle.items k → e4 ≤ k → Hit standing.stands.items prints p at k → ⊥)
-    (h1 : 0 < e1 → Hit standing.stands.items prints p at (e1 - 1)) (h2 : e1 < e2 → Hit standing.stands.items prints p at (e2 - 1)) (h3 : e2 < e3 → Hit standing.stands.items prints p at (e3 - 1)) (h4 : e3 < e4 → Hit standing.stands.items prints p at (e4 - 1))
+    (h1 : 0 < e1 → Hit standing.stands.items prints p at (e1 - 1)) (h2 : e1 < e2 → Hit standing.stands.items prints p at (e2 - 1))
+    (h3 : e2 < e3 → Hit standing.stands.items prints p at (e3 - 1)) (h4 : e3 < e4 → Hit standing.stands.items prints p at (e4 - 1))
     (at_is : p ≡ get_or prints at p) (inside : at < length prints) (q : Print) (q_is : q ≡ get_or prints at q) where
   q_same : p ≡ q
   q_same = at_is ∙ print_same prints at p q inside ∙ sym q_is
 
   ww : (h : Held) → Contains p.writes h → (k : ℕ) → Contains (row_of standing.index.writers.items h) k → e4 ≤ k → Hit standing.stands.items prints p at k → ⊥
-  ww h in_h k in_row far hit = c1 h (subst (λ l. Contains l h) (sym w_is) in_h) k (subst (λ l. Contains (row_of l h) k) (sym s_is) in_row) (omega (arith, up2, up3, up4, far)) hit
+  ww h in_h k in_row far hit =
+      c1 h (subst (λ l. Contains l h) (sym w_is) in_h) k (subst (λ l. Contains (row_of l h) k) (sym s_is) in_row) (omega (arith, up2, up3, up4, far)) hit
 
   wr : (h : Held) → Contains p.writes h → (k : ℕ) → Contains (row_of standing.index.readers.items h) k → e4 ≤ k → Hit standing.stands.items prints p at k → ⊥
-  wr h in_h k in_row far hit = c2 h (subst (λ l. Contains l h) (sym w_is) in_h) k (subst (λ l. Contains (row_of l h) k) (sym t_is) in_row) (omega (arith, up3, up4, far)) hit
+  wr h in_h k in_row far hit =
+      c2 h (subst (λ l. Contains l h) (sym w_is) in_h) k (subst (λ l. Contains (row_of l h) k) (sym t_is) in_row) (omega (arith, up3, up4, far)) hit
 
   rw' : (h : Held) → Contains p.reads h → (k : ℕ) → Contains (row_of standing.index.writers.items h) k → e4 ≤ k → Hit standing.stands.items prints p at k → ⊥
-  rw' h in_h k in_row far hit = c3 h (subst (λ l. Contains l h) (sym r_is) in_h) k (subst (λ l. Contains (row_of l h) k) (sym u_is) in_row) (omega (arith, up4, far)) hit
+  rw' h in_h k in_row far hit =
+      c3 h (subst (λ l. Contains l h) (sym r_is) in_h) k (subst (λ l. Contains (row_of l h) k) (sym u_is) in_row) (omega (arith, up4, far)) hit
 
   pub seek_none : e4 ≡ 0 → (j : ℕ) → Hit standing.stands.items prints q at j → ⊥
   seek_none e j hit = last_none standing prints p at e4 is ww wr rw' c4 e j (subst (λ x. Hit standing.stands.items prints x at j) (sym q_same) hit)

@@ -64,4 +64,5 @@ pub record ListsStanding (standing : Standing) (prints : List Print) : Type 0 wh
   pub rising_idle : Rise 0 (length standing.stands.items) standing.idle.items
   pub writers : (k : ℕ) (p : Print) → get_or standing.stands.items k false ≡ true → p ≡ get_or prints k p → Listed standing.index.writers.items p.writes k
   pub readers : (k : ℕ) (p : Print) → get_or standing.stands.items k false ≡ true → p ≡ get_or prints k p → Listed standing.index.readers.items p.reads k
-  pub idle : (k : ℕ) (p : Print) → get_or standing.stands.items k false ≡ true → p ≡ get_or prints k p → is_none (cells p.writes) ≡ true → Contains standing.idle.items k
+  pub idle : (k : ℕ) (p : Print) → get_or standing.stands.items k false ≡ true → p ≡ get_or prints k p → is_none (cells p.writes) ≡ true
+      → Contains standing.idle.items k

@@ -24,7 +24,8 @@ unfolding printed
 by_printed meta [] e f = refl
 by_printed meta (o ∷ ops) e f = ap (λ b. has_of e f (op_writes meta o) || b) (by_printed meta ops e f)
 
-as_written : (prints : List Print) (meta : Meta) (ops : List Operation) → shown prints ≡ printed meta ops → (e : IdBytes) (f : ℕ) → wrote_by (shown prints) e f ≡ wrote meta ops e f
+as_written : (prints : List Print) (meta : Meta) (ops : List Operation) → shown prints ≡ printed meta ops → (e : IdBytes) (f : ℕ)
+    → wrote_by (shown prints) e f ≡ wrote meta ops e f
 as_written prints meta ops is e f = ap (λ p. wrote_by p e f) is ∙ by_printed meta ops e f
 
 above_all : (us : List ℕ) (v : ℕ) → All (λ u. u < v) us → is_among us v ≡ false
@@ -45,7 +46,8 @@ or-true false = refl
 among_pushed : (us : List ℕ) (v : ℕ) → is_among (us ++ v ∷ []) v ≡ true
 among_pushed us v = list_any-append (nat_eq v) us (v ∷ []) ∙ ap (λ b. is_among us v || (b || false)) (own v) ∙ or-true (is_among us v)
 
-rows_pushed : (v : ℕ) (us : List ℕ) → Rises us × All (λ u. u < v) us → (b : Bool) → Rises (cond b (pushed v us) us) × All (λ u. u < v + 1) (cond b (pushed v us) us)
+rows_pushed : (v : ℕ) (us : List ℕ) → Rises us × All (λ u. u < v) us → (b : Bool)
+    → Rises (cond b (pushed v us) us) × All (λ u. u < v + 1) (cond b (pushed v us) us)
 rows_pushed v us is true =
     let same : pushed v us ≡ us ++ v ∷ [] = pushed_above v us is.1 in
     subst (λ l. Rises l × All (λ u. u < v + 1) l) (sym same) (rises_push us v is.0 is.1, all_push us v is.1)
@@ -56,7 +58,8 @@ has_pushed v us all true = ap (λ l. is_among l v) (pushed_above v us all) ∙ a
 has_pushed v us all false = above_all us v all
 
 -- the version was put
-module _ (old new : Table) (v : ℕ) (prints : List Print) (meta : Meta) (ops : List Operation) (is : shown prints ≡ printed meta ops) (put : Puts old new v (λ e f. wrote_by (shown prints) e f)) (rows : AreRows old v) where
+module _ (old new : Table) (v : ℕ) (prints : List Print) (meta : Meta) (ops : List Operation) (is : shown prints ≡ printed meta ops)
+    (put : Puts old new v (λ e f. wrote_by (shown prints) e f)) (rows : AreRows old v) where
   pub rows_added : AreRows new (v + 1)
   rows_added e f = subst (λ l. Rises l × All (λ u. u < v + 1) l) (sym (put e f)) (rows_pushed v (listed old e f) (rows e f) (wrote_by (shown prints) e f))
 
@@ -71,11 +74,14 @@ module _ (old new : Table) (v : ℕ) (prints : List Print) (meta : Meta) (ops : 
   pub pairs_added : pairs_below new (v + 1) ≡ pairs_below old v ++ written meta ops ∷ []
   unfolding pairs_below
   pairs_added =
-      let kept : pairs_below new v ≡ pairs_below old v = pairs_same old new v v (omega arith) (keeps_put v old new (λ e f. wrote_by (shown prints) e f) (λ e f. wrote_by (shown prints) e f) put (λ e f none. none)).below in
+      let kept : pairs_below new v ≡ pairs_below old v =
+      pairs_same old new v v (omega arith)
+      (keeps_put v old new (λ e f. wrote_by (shown prints) e f) (λ e f. wrote_by (shown prints) e f) put (λ e f none. none)).below in
       ap (λ n. pairs_below new n) (add-one v) ∙ (λ i. kept i ++ at_added i ∷ [])
 
 -- some of it was put, and all of that is cut
-module _ (old middle new : Table) (v : ℕ) (test : IdBytes → ℕ → Bool) (keeps : Keeps old middle v test) (cuts : Cuts middle new v test) (rows : AreRows old v) where
+module _ (old middle new : Table) (v : ℕ) (test : IdBytes → ℕ → Bool) (keeps : Keeps old middle v test) (cuts : Cuts middle new v test)
+    (rows : AreRows old v) where
   lists_left : (e : IdBytes) (f : ℕ) → listed new e f ≡ listed old e f
   lists_left e f = cuts e f ∙ by (test e f) refl
     where

@@ -1,5 +1,6 @@
 -- What the lists of a table answer is what the index does.
-use Rattle.std.proofs.Common.{◌≡◌, ℕ, zero, suc, ◌<◌, ◌≤◌, Bool, true, false, cond, ◌+◌, ◌||◌, List, [], ◌∷◌, ◌++◌, take, length, refl, inl, inr, sym, ◌∙◌, ap, arith}
+use Rattle.std.proofs.Common.{◌≡◌, ℕ, zero, suc, ◌<◌, ◌≤◌, Bool, true, false, cond, ◌+◌, ◌||◌, List, [], ◌∷◌, ◌++◌, take, length, refl, inl, inr, sym}
+use Rattle.std.proofs.Common.{◌∙◌, ap, arith}
 use Rattle.std.specs.Prelude.{All, Contains, ◌⊎◌, Option, None, Some, is_some, slice_get}
 use Rattle.std.specs.List.{list_any}
 use Rattle.std.proofs.lemmas.List.Elements.{All-contains, All-head, All-tail}
@@ -42,7 +43,8 @@ contains_later : (u : ℕ) (us : List ℕ) (w : ℕ) → Contains (u ∷ us) w �
 contains_later u us w (zero, within, is) = inl is
 contains_later u us w (suc k, within, is) = inr (k, omega (arith, within), is)
 
-one_later : (p : ℕ → Bool) (u : ℕ) (us : List ℕ) → All (λ v. u < v) us → (o : Option ℕ) → IsLast p us o → (b : Bool) → p u ≡ b → IsLast p (u ∷ us) (later (cond b (Some u) None) o)
+one_later : (p : ℕ → Bool) (u : ℕ) (us : List ℕ) → All (λ v. u < v) us → (o : Option ℕ) → IsLast p us o → (b : Bool) → p u ≡ b
+    → IsLast p (u ∷ us) (later (cond b (Some u) None) o)
 one_later p u us above (Some v) is b here = record {
   there = (suc is.there.0, omega (arith, is.there.1), is.there.2);
   passes = is.passes;
@@ -70,7 +72,8 @@ last_found p [] rises = λ w (k, within, is). absurd (omega (arith, within))
 last_found p (u ∷ us) rises = one_later p u us rises.0 (last_of p us) (last_found p us rises.1) (p u) refl
 
 -- the last number by the list of a feature is that by the index
-pub last_listed : (t : Table) (n : ℕ) (index : List Pairs) → pairs_below t n ≡ index → (e : IdBytes) (f : ℕ) (us : List ℕ) → All (λ u. u < length index) us → (o : Option ℕ) → IsLast (is_among (listed t e f)) us o → IsLast (wrote_in index e f) us o
+pub last_listed : (t : Table) (n : ℕ) (index : List Pairs) → pairs_below t n ≡ index → (e : IdBytes) (f : ℕ) (us : List ℕ)
+    → All (λ u. u < length index) us → (o : Option ℕ) → IsLast (is_among (listed t e f)) us o → IsLast (wrote_in index e f) us o
 last_listed t n index is e f us all o last = last_same (is_among (listed t e f)) (wrote_in index e f) us
     (λ u there.
     let low : u < length index = All-contains (λ w. w < length index) us u all there in
@@ -99,13 +102,15 @@ some_last p us None none = sym (nowhere p us none)
 some_last p us (Some u) is = sym (somewhere p u us is.there is.passes)
 
 -- a version of the path wrote the feature, by the list and by the index
-pub any_listed : (t : Table) (n : ℕ) (index : List Pairs) → pairs_below t n ≡ index → (e : IdBytes) (f : ℕ) (us : List ℕ) → All (λ u. u < length index) us → list_any (is_among (listed t e f)) us ≡ list_any (wrote_in index e f) us
+pub any_listed : (t : Table) (n : ℕ) (index : List Pairs) → pairs_below t n ≡ index → (e : IdBytes) (f : ℕ) (us : List ℕ)
+    → All (λ u. u < length index) us → list_any (is_among (listed t e f)) us ≡ list_any (wrote_in index e f) us
 any_listed t n index is e f [] all = refl
 any_listed t n index is e f (u ∷ us) all =
     let low : u < length index = All-head (λ w. w < length index) u us all in
     let size : length index ≡ n = sym (ap length is) ∙ length-pairs_below t n in
     let here : is_among (listed t e f) u ≡ wrote_in index e f u = sym (wrote_in-listed t n u (omega (arith, low, size)) e f) ∙ ap (λ x. wrote_in x e f u) is in
-    let more : list_any (is_among (listed t e f)) us ≡ list_any (wrote_in index e f) us = any_listed t n index is e f us (All-tail (λ w. w < length index) u us all) in
+    let more : list_any (is_among (listed t e f)) us ≡ list_any (wrote_in index e f) us =
+    any_listed t n index is e f us (All-tail (λ w. w < length index) u us all) in
     λ i. here i || more i
 
 -- ---- the index of versions
@@ -122,7 +127,8 @@ pub length-first : (meta : Meta) (vs : List Version) (n : ℕ) → n ≤ length 
 length-first meta vs n fits = length-index_of meta (take n vs) ∙ length-taken n vs fits
 
 -- what it says of a version is what the version wrote
-pub wrote_in-first : (meta : Meta) (vs : List Version) (n u : ℕ) → u < n → (e : IdBytes) (f : ℕ) → wrote_in (index_of meta (take n vs)) e f u ≡ wrote meta (package_at vs u) e f
+pub wrote_in-first : (meta : Meta) (vs : List Version) (n u : ℕ) → u < n → (e : IdBytes) (f : ℕ)
+    → wrote_in (index_of meta (take n vs)) e f u ≡ wrote meta (package_at vs u) e f
 wrote_in-first meta vs zero u low e f = absurd (omega (arith, low))
 wrote_in-first meta [] (suc n) u low e f = refl
 wrote_in-first meta (v ∷ vs) (suc n) zero low e f = contains-written meta v.«package» e f
@@ -133,7 +139,8 @@ index_of-push meta [] v = refl
 index_of-push meta (w ∷ vs) v = ap (λ l. written meta w.«package» ∷ l) (index_of-push meta vs v)
 
 -- one version more
-pub index_of-more : (meta : Meta) (vs : List Version) (k : ℕ) (version : Version) → slice_get vs k ≡ Some version → index_of meta (take (k + 1) vs) ≡ index_of meta (take k vs) ++ written meta version.«package» ∷ []
+pub index_of-more : (meta : Meta) (vs : List Version) (k : ℕ) (version : Version) → slice_get vs k ≡ Some version
+    → index_of meta (take (k + 1) vs) ≡ index_of meta (take k vs) ++ written meta version.«package» ∷ []
 index_of-more meta [] k version is = absurd cc
 index_of-more meta (w ∷ vs) zero version is =
     let same : w ≡ version = cc in

@@ -1,5 +1,6 @@
 -- Rising lists, the numbers below a bound, and a number that is put at an end.
-use Rattle.std.proofs.Common.{◌≡◌, ℕ, zero, suc, ◌+◌, ◌-◌, ◌<◌, ◌≤◌, Bool, true, false, cond, ◌||◌, List, [], ◌∷◌, ◌++◌, length, get_or, take, drop, nat_eq, nat_lt, refl, sym, ◌∙◌, ap, arith, append-nil, inl, inr}
+use Rattle.std.proofs.Common.{◌≡◌, ℕ, zero, suc, ◌+◌, ◌-◌, ◌<◌, ◌≤◌, Bool, true, false, cond, ◌||◌, List, [], ◌∷◌, ◌++◌, length, get_or, take, drop}
+use Rattle.std.proofs.Common.{nat_eq, nat_lt, refl, sym, ◌∙◌, ap, arith, append-nil, inl, inr}
 use Rattle.std.specs.Prelude.{All, ◌⊎◌, Some, slice_get}
 use Rattle.std.specs.List.{filter}
 use Rattle.std.specs.List.Sorted.{IsNonDecreasingBy}
@@ -24,7 +25,9 @@ not_below v = grind arith
 
 filter_all : (p : ℕ → Bool) (us : List ℕ) → All (λ u. p u ≡ true) us → filter p us ≡ us
 filter_all p [] all = refl
-filter_all p (u ∷ us) all = ap (λ b. cond b (u ∷ filter p us) (filter p us)) (All-head (λ w. p w ≡ true) u us all) ∙ ap (λ ws. u ∷ ws) (filter_all p us (All-tail (λ w. p w ≡ true) u us all))
+filter_all p (u ∷ us) all =
+    ap (λ b. cond b (u ∷ filter p us) (filter p us)) (All-head (λ w. p w ≡ true) u us all)
+    ∙ ap (λ ws. u ∷ ws) (filter_all p us (All-tail (λ w. p w ≡ true) u us all))
 
 -- ---- numbers below a bound
 -- all of a list that is below
@@ -42,7 +45,8 @@ among_below v u low (w ∷ us) = by (nat_lt w v) refl (among_below v u low us)
     apart : nat_lt w v ≡ false → nat_eq u w ≡ false
     apart high = grind (arith, low, high)
 
-    by : (b : Bool) → nat_lt w v ≡ b → is_among (below v us) u ≡ is_among us u → is_among (cond b (w ∷ below v us) (below v us)) u ≡ (nat_eq u w || is_among us u)
+    by : (b : Bool) → nat_lt w v ≡ b → is_among (below v us) u ≡ is_among us u
+        → is_among (cond b (w ∷ below v us) (below v us)) u ≡ (nat_eq u w || is_among us u)
     by true is more = ap (λ b. nat_eq u w || b) more
     by false is more = more ∙ sym (ap (λ b. b || is_among us u) (apart is))
 
@@ -88,7 +92,8 @@ pushed_above v us all = ap (λ b. cond b us (us ++ v ∷ [])) (no_end us v all (
 
 pub rises_push : (us : List ℕ) (v : ℕ) → Rises us → All (λ u. u < v) us → Rises (us ++ v ∷ [])
 rises_push [] v rises all = (λ k d within. absurd (omega (arith, within)), tt)
-rises_push (u ∷ us) v rises all = (All-push (λ w. u < w) us v rises.0 (All-head (λ w. w < v) u us all), rises_push us v rises.1 (All-tail (λ w. w < v) u us all))
+rises_push (u ∷ us) v rises all =
+    (All-push (λ w. u < w) us v rises.0 (All-head (λ w. w < v) u us all), rises_push us v rises.1 (All-tail (λ w. w < v) u us all))
 
 pub all_push : (us : List ℕ) (v : ℕ) → All (λ u. u < v) us → All (λ u. u < v + 1) (us ++ v ∷ [])
 all_push us v all = All-push (λ u. u < v + 1) us v (All-weaker (λ u. u < v) (λ u. u < v + 1) (λ u low. omega (arith, low)) us all) (omega arith)

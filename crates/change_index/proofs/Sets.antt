@@ -1,5 +1,6 @@
 -- Which pairs are in the set of a version, and in that of a package.
-use Rattle.std.proofs.Common.{◌≡◌, ℕ, zero, suc, ◌<◌, ◌≤◌, Bool, true, false, cond, ◌&&◌, ◌||◌, List, [], ◌∷◌, ◌++◌, length, refl, sym, ◌∙◌, ap, arith, length-append, inl, inr}
+use Rattle.std.proofs.Common.{◌≡◌, ℕ, zero, suc, ◌<◌, ◌≤◌, Bool, true, false, cond, ◌&&◌, ◌||◌, List, [], ◌∷◌, ◌++◌, length, refl, sym, ◌∙◌, ap}
+use Rattle.std.proofs.Common.{arith, length-append, inl, inr}
 use Rattle.std.specs.Prelude.{Option, None, Some, is_some, slice_get, ◌⊎◌}
 use Rattle.std.specs.List.{filter, list_any}
 use Rattle.std.specs.Option.{option_map_or}
@@ -40,11 +41,13 @@ and-false true = refl
 and-false false = refl
 
 -- a key is among those that pass where it passes and is among all
-any_passing : (p : AttrKey → Bool) (q : AttrKey) (ks : List AttrKey) → list_any (eq_by_cmp attr_cmp q) (filter p ks) ≡ (p q && list_any (eq_by_cmp attr_cmp q) ks)
+any_passing : (p : AttrKey → Bool) (q : AttrKey) (ks : List AttrKey)
+    → list_any (eq_by_cmp attr_cmp q) (filter p ks) ≡ (p q && list_any (eq_by_cmp attr_cmp q) ks)
 any_passing p q [] = sym (and-false (p q))
 any_passing p q (k ∷ ks) = by (eq_by_cmp attr_cmp q k) refl (p k) refl (any_passing p q ks)
   where
-    by : (same : Bool) → eq_by_cmp attr_cmp q k ≡ same → (b : Bool) → p k ≡ b → list_any (eq_by_cmp attr_cmp q) (filter p ks) ≡ (p q && list_any (eq_by_cmp attr_cmp q) ks)
+    by : (same : Bool) → eq_by_cmp attr_cmp q k ≡ same → (b : Bool) → p k ≡ b
+        → list_any (eq_by_cmp attr_cmp q) (filter p ks) ≡ (p q && list_any (eq_by_cmp attr_cmp q) ks)
         → list_any (eq_by_cmp attr_cmp q) (cond b (k ∷ filter p ks) (filter p ks)) ≡ (p q && (same || list_any (eq_by_cmp attr_cmp q) ks))
     by true is true passes more =
         let here : p q ≡ true = ap p (same_key attr_order q k is) ∙ passes in
@@ -76,7 +79,8 @@ contains-pairs_at t u e f =
 pub same_pairs : (s t : Pairs) → ((e : IdBytes) (f : ℕ) → contains s (e, f) ≡ contains t (e, f)) → s ≡ t
 same_pairs s t is = same_set attr_order.total attr_order.exact s t (λ q. is q.0 q.1)
 
-pub pairs_same : (old new : Table) (v n : ℕ) → n ≤ v → ((e : IdBytes) (f : ℕ) → below v (listed new e f) ≡ below v (listed old e f)) → pairs_below new n ≡ pairs_below old n
+pub pairs_same : (old new : Table) (v n : ℕ) → n ≤ v → ((e : IdBytes) (f : ℕ) → below v (listed new e f) ≡ below v (listed old e f))
+    → pairs_below new n ≡ pairs_below old n
 unfolding pairs_below
 pairs_same old new v zero low same = refl
 pairs_same old new v (suc n) low same =
@@ -136,7 +140,9 @@ any_of_cells e f (c ∷ cs) = list_any-append (eq_by_cmp attr_cmp (e, f)) (pair_
 
 any_of_all : (meta : Meta) (e : IdBytes) (f : ℕ) (ops : List Operation) → list_any (eq_by_cmp attr_cmp (e, f)) (pairs_all meta ops) ≡ wrote meta ops e f
 any_of_all meta e f [] = refl
-any_of_all meta e f (o ∷ ops) = list_any-append (eq_by_cmp attr_cmp (e, f)) (pairs_of (op_writes meta o)) (pairs_all meta ops) ∙ (λ i. any_of_cells e f (op_writes meta o) i || any_of_all meta e f ops i)
+any_of_all meta e f (o ∷ ops) =
+    list_any-append (eq_by_cmp attr_cmp (e, f)) (pairs_of (op_writes meta o)) (pairs_all meta ops)
+    ∙ (λ i. any_of_cells e f (op_writes meta o) i || any_of_all meta e f ops i)
 
 -- a pair is in the set of a package where the package wrote it
 pub contains-written : (meta : Meta) (ops : List Operation) (e : IdBytes) (f : ℕ) → contains (written meta ops) (e, f) ≡ wrote meta ops e f

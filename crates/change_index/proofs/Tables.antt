@@ -1,5 +1,6 @@
 -- A table after one of its lists was changed.
-use Rattle.std.proofs.Common.{◌≡◌, ℕ, zero, suc, ◌+◌, ◌<◌, ◌≤◌, Bool, true, false, cond, ◌&&◌, ◌||◌, nat_eq, List, [], ◌∷◌, take, length, get_or, refl, sym, ◌∙◌, ap, take_all}
+use Rattle.std.proofs.Common.{◌≡◌, ℕ, zero, suc, ◌+◌, ◌<◌, ◌≤◌, Bool, true, false, cond, ◌&&◌, ◌||◌, nat_eq, List, [], ◌∷◌, take, length, get_or}
+use Rattle.std.proofs.Common.{refl, sym, ◌∙◌, ap, take_all}
 use Rattle.std.specs.Prelude.{Some, Result, Ok, Err, OnOk, OnErr}
 use Rattle.std.specs.List.{list_any}
 use Rattle.std.specs.Ordering.{nat_cmp}
@@ -28,16 +29,20 @@ on_ok (Err e) f p = p
 
 -- ---- one list of one element
 -- the rows of an element are other rows now
-module _ (old new : Table) (e : IdBytes) (rows : Rows) (outside : (q : IdBytes) → tree.get id_cmp new q ≡ cond (is_at (id_cmp e) q) (Some rows) (tree.get id_cmp old q)) where
+module _ (old new : Table) (e : IdBytes) (rows : Rows)
+    (outside : (q : IdBytes) → tree.get id_cmp new q ≡ cond (is_at (id_cmp e) q) (Some rows) (tree.get id_cmp old q)) where
   listed_new : (a : IdBytes) (g : ℕ) → listed new a g ≡ numbers (inner_get (λ r. tree.get nat_cmp r g) (cond (text_eq e a) (Some rows) (tree.get id_cmp old a)))
-  listed_new a g = ap (λ o. numbers (inner_get (λ r. tree.get nat_cmp r g) o)) (outside a ∙ ap (λ b. cond b (Some rows) (tree.get id_cmp old a)) (sym (text_at e a)))
+  listed_new a g = ap (λ o. numbers (inner_get (λ r. tree.get nat_cmp r g) o))
+      (outside a ∙ ap (λ b. cond b (Some rows) (tree.get id_cmp old a)) (sym (text_at e a)))
 
   -- with h applied to the list of a feature, the table has it applied there
   pub pair_done : (h : List ℕ → List ℕ) (f : ℕ) → ((g : ℕ) → row rows g ≡ cond (nat_eq f g) (h (listed old e g)) (listed old e g))
       → (a : IdBytes) (g : ℕ) → listed new a g ≡ cond (text_eq e a && nat_eq f g) (h (listed old a g)) (listed old a g)
   pair_done h f within a g = listed_new a g ∙ by (text_eq e a) refl
     where
-      by : (b : Bool) → text_eq e a ≡ b → numbers (inner_get (λ r. tree.get nat_cmp r g) (cond b (Some rows) (tree.get id_cmp old a))) ≡ cond (b && nat_eq f g) (h (listed old a g)) (listed old a g)
+      by : (b : Bool) → text_eq e a ≡ b
+          → numbers (inner_get (λ r. tree.get nat_cmp r g) (cond b (Some rows) (tree.get id_cmp old a))) ≡ cond (b && nat_eq f g) (h (listed old a g))
+          (listed old a g)
       by true is = within g ∙ ap (λ x. cond (nat_eq f g) (h (listed old x g)) (listed old x g)) (text_equality.exact e a is)
       by false is = refl
 
@@ -55,11 +60,13 @@ abbrev pub Did : (List ℕ → List ℕ) → Table → Table → Test → Type 0
 Did h old new test = (e : IdBytes) (f : ℕ) → listed new e f ≡ cond (test e f) (h (listed old e f)) (listed old e f)
 
 -- where h does nothing more to what it did, it is applied to those that pass either test
-pub did_more : (h : List ℕ → List ℕ) → ((us : List ℕ) → h (h us) ≡ h us) → (a b c : Table) (s t u : Test) → Did h a b s → Did h b c t → ((e : IdBytes) (f : ℕ) → u e f ≡ (s e f || t e f)) → Did h a c u
+pub did_more : (h : List ℕ → List ℕ) → ((us : List ℕ) → h (h us) ≡ h us) → (a b c : Table) (s t u : Test) → Did h a b s → Did h b c t
+    → ((e : IdBytes) (f : ℕ) → u e f ≡ (s e f || t e f)) → Did h a c u
 did_more h twice a b c s t u first second either e f =
     second e f ∙ ap (λ us. cond (t e f) (h us) us) (first e f) ∙ by (s e f) (t e f) ∙ sym (ap (λ x. cond x (h (listed a e f)) (listed a e f)) (either e f))
   where
-    by : (x y : Bool) → cond y (h (cond x (h (listed a e f)) (listed a e f))) (cond x (h (listed a e f)) (listed a e f)) ≡ cond (x || y) (h (listed a e f)) (listed a e f)
+    by : (x y : Bool) → cond y (h (cond x (h (listed a e f)) (listed a e f))) (cond x (h (listed a e f)) (listed a e f)) ≡ cond (x || y)
+        (h (listed a e f)) (listed a e f)
     by true true = twice (listed a e f)
     by true false = refl
     by false true = refl
@@ -84,7 +91,8 @@ keeps_put v a b s t put weaker = record {
     by e f true = below_pushed v (listed a e f)
     by e f false = refl
 
-pub keeps_more : (v : ℕ) (a b c : Table) (s t : Test) → Keeps a b v s → Keeps b c v t → (u : Test) → ((e : IdBytes) (f : ℕ) → u e f ≡ false → (s e f ≡ false) × (t e f ≡ false)) → Keeps a c v u
+pub keeps_more : (v : ℕ) (a b c : Table) (s t : Test) → Keeps a b v s → Keeps b c v t → (u : Test)
+    → ((e : IdBytes) (f : ℕ) → u e f ≡ false → (s e f ≡ false) × (t e f ≡ false)) → Keeps a c v u
 keeps_more v a b c s t first second u weaker = record {
   below = λ e f. second.below e f ∙ first.below e f;
   others = λ e f fails. let both = weaker e f fails in second.others e f both.1 ∙ first.others e f both.0;
@@ -112,7 +120,8 @@ has_of-cells e f (h ∷ hs) = ap (λ b. is_of e f (seen h) || b) (has_of-cells e
 pub has_of-none : (e : IdBytes) (f : ℕ) (hs : List Held) → has_of e f (cells (take 0 hs)) ≡ false
 has_of-none e f hs = has_of-cells e f (take 0 hs)
 
-pub has_of-more : (e : IdBytes) (f : ℕ) (hs : List Held) (i : ℕ) (h : Held) → i < length hs → h ≡ get_or hs i h → has_of e f (cells (take (i + 1) hs)) ≡ (has_of e f (cells (take i hs)) || is_of e f (seen h))
+pub has_of-more : (e : IdBytes) (f : ℕ) (hs : List Held) (i : ℕ) (h : Held) → i < length hs → h ≡ get_or hs i h
+    → has_of e f (cells (take (i + 1) hs)) ≡ (has_of e f (cells (take i hs)) || is_of e f (seen h))
 has_of-more e f hs i h within is =
     has_of-cells e f (take (i + 1) hs) ∙ list_any_more (λ h. is_of e f (seen h)) hs i h within
     ∙ (λ k. sym (has_of-cells e f (take i hs)) k || is_of e f (seen (sym is k)))
@@ -131,7 +140,8 @@ by_prints e f (p ∷ ps) = ap (λ b. has_of e f (cells p.writes) || b) (by_print
 pub by-none : (e : IdBytes) (f : ℕ) (ps : List Print) → wrote_by (shown (take 0 ps)) e f ≡ false
 by-none e f ps = by_prints e f (take 0 ps)
 
-pub by-more : (e : IdBytes) (f : ℕ) (ps : List Print) (i : ℕ) (p : Print) → i < length ps → p ≡ get_or ps i p → wrote_by (shown (take (i + 1) ps)) e f ≡ (wrote_by (shown (take i ps)) e f || has_of e f (cells p.writes))
+pub by-more : (e : IdBytes) (f : ℕ) (ps : List Print) (i : ℕ) (p : Print) → i < length ps → p ≡ get_or ps i p
+    → wrote_by (shown (take (i + 1) ps)) e f ≡ (wrote_by (shown (take i ps)) e f || has_of e f (cells p.writes))
 by-more e f ps i p within is =
     by_prints e f (take (i + 1) ps) ∙ list_any_more (λ (p : Print). has_of e f (cells p.writes)) ps i p within
     ∙ (λ k. sym (by_prints e f (take i ps)) k || has_of e f (cells (sym is k).writes))
@@ -143,5 +153,6 @@ pub by-weaker : (e : IdBytes) (f : ℕ) (ps : List Print) (i : ℕ) → wrote_by
 by-weaker e f ps i none = by_prints e f (take i ps) ∙ none_taken (λ (p : Print). has_of e f (cells p.writes)) ps i (sym (by_prints e f ps) ∙ none)
 
 -- an item that is taken is one of all
-pub by-item : (e : IdBytes) (f : ℕ) (ps : List Print) (i : ℕ) (p : Print) → i < length ps → p ≡ get_or ps i p → wrote_by (shown ps) e f ≡ false → has_of e f (cells p.writes) ≡ false
+pub by-item : (e : IdBytes) (f : ℕ) (ps : List Print) (i : ℕ) (p : Print) → i < length ps → p ≡ get_or ps i p → wrote_by (shown ps) e f ≡ false
+    → has_of e f (cells p.writes) ≡ false
 by-item e f ps i p within is none = (neither _ _ (sym (by-more e f ps i p within is) ∙ by-weaker e f ps (i + 1) none)).1

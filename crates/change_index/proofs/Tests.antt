@@ -27,7 +27,8 @@ nat_at f g = both_ways (nat_eq f g) (is_at (nat_cmp f) g)
 pub pair_at : (a e : IdBytes) (g f : ℕ) → eq_by_cmp attr_cmp (e, f) (a, g) ≡ (text_eq a e && nat_eq g f)
 pair_at a e g f = both_ways (eq_by_cmp attr_cmp (e, f) (a, g)) (text_eq a e && nat_eq g f)
     (λ is. let same : ◌≡◌ {A = AttrKey} (e, f) (a, g) = same_key attr_order (e, f) (a, g) is in
-    and_both _ _ (subst (λ x. text_eq a x ≡ true) (sym (ap (λ (k : AttrKey). k.0) same)) (text_equality.own a)) (subst (λ x. nat_eq g x ≡ true) (sym (ap (λ (k : AttrKey). k.1) same)) (nat_equality.own g)))
+    and_both _ _ (subst (λ x. text_eq a x ≡ true) (sym (ap (λ (k : AttrKey). k.0) same)) (text_equality.own a))
+    (subst (λ x. nat_eq g x ≡ true) (sym (ap (λ (k : AttrKey). k.1) same)) (nat_equality.own g)))
     (λ is. let here : a ≡ e = text_equality.exact a e (and_first _ _ is) in
     let there : g ≡ f = nat_equality.exact g f (and_second _ _ is) in
     subst (λ (x : AttrKey). eq_by_cmp attr_cmp (e, f) x ≡ true) (λ i. (sym here i, sym there i)) (own_key attr_order (e, f)))

@@ -17,11 +17,13 @@ IsLastWrite meta h v e f last = IsLast (λ u. wrote meta (package_at h.versions 
 
 -- what is added to the index of some versions makes that of one more
 abbrev pub VersionsAreAdded : Type 0
-VersionsAreAdded = (meta : Meta) (versions : List Version) (version : Version) → index_of meta (versions ++ version ∷ []) ≡ index_of meta versions ++ written meta version.«package» ∷ []
+VersionsAreAdded = (meta : Meta) (versions : List Version) (version : Version)
+    → index_of meta (versions ++ version ∷ []) ≡ index_of meta versions ++ written meta version.«package» ∷ []
 
 -- a path of the first n versions is one that the index can be asked for
 abbrev pub PathsAreAsked : Type 0
-PathsAreAsked = (meta : Meta) (h : History) → IsWhole h → (n v : ℕ) → n ≤ length h.versions → v < n → Rises (path h v) × All (λ u. u < length (index_of meta (take n h.versions))) (path h v)
+PathsAreAsked = (meta : Meta) (h : History) → IsWhole h → (n v : ℕ) → n ≤ length h.versions → v < n
+    → Rises (path h v) × All (λ u. u < length (index_of meta (take n h.versions))) (path h v)
 
 -- what the index of the first n versions answers for the path of one of them is the last version there that wrote the feature
 abbrev pub LastIsOfHistory : Type 0

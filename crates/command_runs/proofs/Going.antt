@@ -1,5 +1,6 @@
 -- A loop over commands: what holds between two of them, and how one more is added.
-use Rattle.std.proofs.Common.{◌≡◌, ⊎_elim, None, Option, Some, ℕ, zero, suc, ◌+◌, ◌-◌, ◌≤◌, min, List, [], ◌∷◌, ◌++◌, length, take, refl, sym, ◌∙◌, ap, subst, append_assoc, length-append, arith}
+use Rattle.std.proofs.Common.{◌≡◌, ⊎_elim, None, Option, Some, ℕ, zero, suc, ◌+◌, ◌-◌, ◌≤◌, min, List, [], ◌∷◌, ◌++◌, length, take, refl, sym, ◌∙◌}
+use Rattle.std.proofs.Common.{ap, subst, append_assoc, length-append, arith}
 use Rattle.std.specs.Prelude.{IsTrue}
 use Rattle.std.proofs.lemmas.List.{append-nil, take_at, length-take, take-append-le, take_min}
 use Rattle.host_port.specs.Host.{Told, MayLeave, GoesOn, Throughout, KeepsDisk, KeepsSaid, AddsPart, disk_now, said_now, CrashLeaves}
@@ -11,7 +12,8 @@ use Rattle.command_runs.proofs.RunLaws.{replies-append, events-append, events_du
 -- Between two commands: these answers are given and the others are left. What they print is printed, and what they make stands.
 -- At each moment since the entry a prefix of the whole run's replies was printed and a crash leaves what it may. Where the whole run
 -- makes no event, the disk stayed.
-pub record Going {E : Type 0} (stands : List ℕ → List E → Type 0) (entry now : Told) (first : List E) (whole left : List (Answer E)) (rests : List E → Type 0) : Type 0 where
+pub record Going {E : Type 0} (stands : List ℕ → List E → Type 0) (entry now : Told) (first : List E) (whole left : List (Answer E))
+    (rests : List E → Type 0) : Type 0 where
   pub done : List (Answer E)
   pub whole_is : whole ≡ done ++ left
   pub said : said_now now ≡ said_now entry ++ replies done
@@ -53,7 +55,8 @@ module _ {E : Type 0} (stands : List ℕ → List E → Type 0) where
 
   module _ (entry : Told) (first : List E) (whole : List (Answer E)) where
     -- before the first command
-    pub begins : (rests : List E → Type 0) → (rests first → CrashLeaves (λ x. stands x first) (disk_now entry)) → rests first → Going stands entry entry first whole whole rests
+    pub begins : (rests : List E → Type 0) → (rests first → CrashLeaves (λ x. stands x first) (disk_now entry)) → rests first
+        → Going stands entry entry first whole whole rests
     begins rests leaves rest = record {
       done = [];
       whole_is = refl;
@@ -66,10 +69,12 @@ module _ {E : Type 0} (stands : List ℕ → List E → Type 0) where
       still = λ none. still_disk entry;
     }
 
-    module _ (a b : Told) (left : List (Answer E)) (rests : List E → Type 0) (going : Going stands entry a first whole left rests) (course : GoesOn entry a) where
+    module _ (a b : Told) (left : List (Answer E)) (rests : List E → Type 0) (going : Going stands entry a first whole left rests)
+        (course : GoesOn entry a) where
       -- calls that write and print nothing
       pub quietly : GoesOn a b → KeepsDisk a b → KeepsSaid a b → ((events : List E) → rests events → CrashLeaves (λ x. stands x events) (disk_now a))
-          → IsTrue entry.tells → (rests_next : List E → Type 0) → ((events : List E) → rests events → rests_next events) → Going stands entry b first whole left rests_next
+          → IsTrue entry.tells → (rests_next : List E → Type 0) → ((events : List E) → rests events → rests_next events)
+          → Going stands entry b first whole left rests_next
       quietly on disk said leaves told rests_next stays = record {
         done = going.done;
         whole_is = going.whole_is;
@@ -86,7 +91,8 @@ module _ {E : Type 0} (stands : List ℕ → List E → Type 0) where
 
           quiet_moments : GoesOn a b → KeepsDisk a b → KeepsSaid a b → ((events : List E) → rests events → CrashLeaves (λ x. stands x events) (disk_now a))
               → Throughout entry b (IsRunning stands first (events whole) (events_due whole) (said_now entry))
-          quiet_moments on disk said leaves = carry_on entry a b (IsRunning stands first (events whole) (events_due whole) (said_now entry)) course on going.moments
+          quiet_moments on disk said leaves =
+              carry_on entry a b (IsRunning stands first (events whole) (events_due whole) (said_now entry)) course on going.moments
               (λ told t low high x left_there. among first whole going.done left x (length (b.said t) - length (said_now entry)) going.whole_is
               (omega (arith, ap length (said told t low high), ap length going.said, length-append (said_now entry) (replies going.done)))
               (leaves (first ++ events going.done) going.rest x (subst (λ d. MayLeave d x) (disk told t low high) left_there)))
@@ -130,7 +136,9 @@ module _ {E : Type 0} (stands : List ℕ → List E → Type 0) where
               ap length (replies-more going.done answer),
               length-append (replies going.done) answer.reply,
             ))
-            (subst (λ (l : List E). stands x l) (append_assoc first (events going.done) (listed answer.event) ∙ ap (λ (l : List E). first ++ l) (sym (events-more going.done answer))) new))
+            (subst (λ (l : List E). stands x l)
+            (append_assoc first (events going.done) (listed answer.event) ∙ ap (λ (l : List E). first ++ l) (sym (events-more going.done answer)))
+            new))
             (steps.moments (first ++ events going.done) going.rest told t low high x left_there)
 
         -- at each moment, whatever it answered
@@ -138,7 +146,8 @@ module _ {E : Type 0} (stands : List ℕ → List E → Type 0) where
         stepped_part = carry_on entry a b (λ disk said. AddsPart (said_now entry) (replies whole) said) course steps.course going.part part_here
 
         pub stepped_moments : Throughout entry b (IsRunning stands first (events whole) (events_due whole) (said_now entry))
-        stepped_moments = carry_on entry a b (IsRunning stands first (events whole) (events_due whole) (said_now entry)) course steps.course going.moments moments_here
+        stepped_moments = carry_on entry a b
+            (IsRunning stands first (events whole) (events_due whole) (said_now entry)) course steps.course going.moments moments_here
 
         -- where the whole run makes no event, this answer makes none
         pub makes_none : events whole ≡ [] → answer.event ≡ None
@@ -163,7 +172,8 @@ module _ {E : Type 0} (stands : List ℕ → List E → Type 0) where
           whole_is = answers_more;
           said = said ∙ ap (λ (l : List ℕ). l ++ answer.reply) going.said ∙ append_assoc (said_now entry) (replies going.done) answer.reply
               ∙ ap (λ (l : List ℕ). said_now entry ++ l) (sym (replies-more going.done answer));
-          rest = subst rests_next (append_assoc first (events going.done) (listed answer.event) ∙ ap (λ (l : List E). first ++ l) (sym (events-more going.done answer)))
+          rest = subst rests_next
+              (append_assoc first (events going.done) (listed answer.event) ∙ ap (λ (l : List E). first ++ l) (sym (events-more going.done answer)))
               (added (first ++ events going.done) going.rest);
           part = stepped_part;
           moments = stepped_moments;

@@ -1,5 +1,6 @@
 -- Where a journal's records end.
-use Rattle.std.proofs.Common.{◌≡◌, ◌≢◌, inl, inr, ℕ, ◌+◌, ◌^◌, ◌<◌, ◌≤◌, List, [], ◌∷◌, ◌++◌, length, take, drop, get_or, refl, sym, ◌∙◌, ap, arith, length-append, append_assoc, take-append-drop, take-take}
+use Rattle.std.proofs.Common.{◌≡◌, ◌≢◌, inl, inr, ℕ, ◌+◌, ◌^◌, ◌<◌, ◌≤◌, List, [], ◌∷◌, ◌++◌, length, take, drop, get_or, refl, sym, ◌∙◌, ap, arith}
+use Rattle.std.proofs.Common.{length-append, append_assoc, take-append-drop, take-take}
 use Rattle.std.proofs.lemmas.List.{append-nil, get_or-take, get_or_at, take_at, drop_more}
 use Rattle.std.proofs.lemmas.List.Elements.{All-push}
 use Rattle.std.proofs.lemmas.Bool.{cases_lt}
@@ -15,13 +16,20 @@ length-four_bytes n = refl
 
 pub records-push : (forms : List (List ℕ)) (form : List ℕ) → records (forms ++ form ∷ []) ≡ records forms ++ record_of form
 records-push [] form = append-nil (record_of form)
-records-push (f ∷ forms) form = ap (λ (l : List ℕ). record_of f ++ l) (records-push forms form) ∙ sym (append_assoc (record_of f) (records forms) (record_of form))
+records-push (f ∷ forms) form =
+    ap (λ (l : List ℕ). record_of f ++ l) (records-push forms form) ∙ sym (append_assoc (record_of f) (records forms) (record_of form))
 
 pub length-record_of : (form : List ℕ) → length (record_of form) ≡ 5 + length form
 length-record_of form = omega (arith, length-append (four_bytes (length form)) form, length-four_bytes (length form))
 
 pub length-after_gate : (form : List ℕ) → length (after_gate form) ≡ 5 + length form
-length-after_gate form = omega (arith, length-append (four_bytes (length form) ++ form) (0 ∷ []), length-append (four_bytes (length form)) form, length-four_bytes (length form))
+length-after_gate form =
+    omega (
+      arith,
+      length-append (four_bytes (length form) ++ form) (0 ∷ []),
+      length-append (four_bytes (length form)) form,
+      length-four_bytes (length form),
+    )
 
 pub no_records : (forms : List (List ℕ)) → length (records forms) ≡ 0 → forms ≡ []
 no_records [] none = refl
@@ -38,12 +46,15 @@ module _ (file : List ℕ) (forms : List (List ℕ)) (place : ℕ) (ends : EndsA
   pub same_end : (x : List ℕ) → take (place + 1) x ≡ take (place + 1) file → place < length x → EndsAt x forms place
   same_end x same long = record {
     reads = record {
-      prefix = sym (take-take place (place + 1) x (omega arith)) ∙ ap (λ (l : List ℕ). take place l) same ∙ take-take place (place + 1) file (omega arith) ∙ ends.reads.prefix;
+      prefix = sym (take-take place (place + 1) x (omega arith)) ∙ ap (λ (l : List ℕ). take place l) same
+          ∙ take-take place (place + 1) file (omega arith) ∙ ends.reads.prefix;
       place_is = ends.reads.place_is;
       sizes = ends.reads.sizes;
     };
     in_file = long;
-    closed = λ open_gate. ends.closed (sym (get_or-take (place + 1) file place 0 (omega arith)) ∙ ap (λ (l : List ℕ). get_or l place 0) (sym same) ∙ get_or-take (place + 1) x place 0 (omega arith) ∙ open_gate);
+    closed = λ open_gate. ends.closed
+        (sym (get_or-take (place + 1) file place 0 (omega arith)) ∙ ap (λ (l : List ℕ). get_or l place 0) (sym same)
+        ∙ get_or-take (place + 1) x place 0 (omega arith) ∙ open_gate);
     low = ends.low;
   }
 
@@ -52,19 +63,32 @@ module _ (file : List ℕ) (forms : List (List ℕ)) (place : ℕ) (ends : EndsA
       (short : IsShort form) (fits : place + length form + 6 ≤ 2 ^ 40) (long : place < length x) where
     whole : get_or x place 0 ≡ open_gate → x ≡ (header ++ records (forms ++ form ∷ [])) ++ 0 ∷ rest
     whole is_open =
-        let back : drop place x ≡ open_gate ∷ after_gate form ++ rest = drop_more x place 0 long ∙ ap (λ (g : ℕ). g ∷ drop (place + 1) x) is_open ∙ ap (λ (l : List ℕ). open_gate ∷ l) behind in
-        sym (take-append-drop place x) ∙ ap (λ (l : List ℕ). l ++ drop place x) (prefix ∙ ends.reads.prefix) ∙ ap (λ (l : List ℕ). (header ++ records forms) ++ l) back
+        let back : drop place x ≡ open_gate ∷ after_gate form ++ rest =
+        drop_more x place 0 long ∙ ap (λ (g : ℕ). g ∷ drop (place + 1) x) is_open ∙ ap (λ (l : List ℕ). open_gate ∷ l) behind in
+        sym (take-append-drop place x) ∙ ap (λ (l : List ℕ). l ++ drop place x) (prefix ∙ ends.reads.prefix)
+        ∙ ap (λ (l : List ℕ). (header ++ records forms) ++ l) back
         ∙ sym (ap (λ (l : List ℕ). (header ++ l) ++ 0 ∷ rest) (records-push forms form) ∙ simp append_assoc)
 
     pub opened : get_or x place 0 ≡ open_gate → EndsAt x (forms ++ form ∷ []) (place + 5 + length form)
     opened is_open =
         let size : length (header ++ records (forms ++ form ∷ [])) ≡ place + 5 + length form =
-        omega (arith, length-append header (records (forms ++ form ∷ [])), ap length (records-push forms form), length-append (records forms) (record_of form), length-record_of form, length-header, ends.reads.place_is) in
+        omega (
+          arith,
+          length-append header (records (forms ++ form ∷ [])),
+          ap length (records-push forms form),
+          length-append (records forms) (record_of form),
+          length-record_of form,
+          length-header,
+          ends.reads.place_is,
+        ) in
         let is = whole is_open in
-        let gate : get_or x (place + 5 + length form) 0 ≡ 0 = ap (λ (l : List ℕ). get_or l (place + 5 + length form) 0) is ∙ get_or_at (header ++ records (forms ++ form ∷ [])) 0 rest 0 (place + 5 + length form) size in
+        let gate : get_or x (place + 5 + length form) 0 ≡ 0 =
+        ap (λ (l : List ℕ). get_or l (place + 5 + length form) 0) is
+        ∙ get_or_at (header ++ records (forms ++ form ∷ [])) 0 rest 0 (place + 5 + length form) size in
         record {
           reads = record {
-            prefix = ap (λ (l : List ℕ). take (place + 5 + length form) l) is ∙ take_at (header ++ records (forms ++ form ∷ [])) (0 ∷ rest) (place + 5 + length form) size;
+            prefix = ap (λ (l : List ℕ). take (place + 5 + length form) l) is
+                ∙ take_at (header ++ records (forms ++ form ∷ [])) (0 ∷ rest) (place + 5 + length form) size;
             place_is = omega (arith, size, length-append header (records (forms ++ form ∷ [])), length-header);
             sizes = All-push IsShort forms form ends.reads.sizes short;
           };

@@ -58,7 +58,13 @@ pub new_reads : ReadsTo new_file [] 16
 new_reads = record { prefix = front_is; place_is = refl; sizes = λ k d low. absurd (omega arith) }
 
 pub new_ends : EndsAt new_file [] 16
-new_ends = record { reads = new_reads; in_file = omega (arith, length-new_file); closed = λ is_open. absurd (omega (arith, gate_is_shut, is_open)); low = omega arith }
+new_ends = record {
+  reads = new_reads;
+  in_file = omega (arith, length-new_file);
+  closed =
+      λ is_open. absurd (omega (arith, gate_is_shut, is_open));
+  low = omega arith;
+}
 
 -- the host at the start, after the sync and after the length
 module _ (a s l : Told) (sync_course : GoesOn a s) (sync_moments : Throughout a s (λ disk said. (disk ≡ disk_now a) ⊎ (disk ≡ synced (disk_now a))))
@@ -125,10 +131,12 @@ module _ (a s l : Told) (sync_course : GoesOn a s) (sync_moments : Throughout a 
     differs head at is none told = no_header (disk_now a).now head at (is ∙ ap (λ (d : Disk). take 16 d.now) (disk_at_len told)) none
 
   -- and after the writing of the header
-  module _ (e : Told) (course : GoesOn l e) (short : IsTrue a.tells → length (disk_now a).now ≤ 17) (during : Throughout l e (λ disk said. IsWriting (disk_now l) 0 plain_file disk)) where
+  module _ (e : Told) (course : GoesOn l e) (short : IsTrue a.tells → length (disk_now a).now ≤ 17)
+      (during : Throughout l e (λ disk said. IsWriting (disk_now l) 0 plain_file disk)) where
     pub up_to_write : Throughout a e (λ disk said. IsMounting (disk_now a) disk)
     up_to_write told = carry_on a l e (λ disk said. IsMounting (disk_now a) disk) course_to_len course up_to_len
-        (λ told_l t low high. header_leaves (disk_now a) (e.disk t) (short told) (subst (λ (d : Disk). IsWriting d 0 plain_file (e.disk t)) (disk_at_len told) (during told_l t low high))) told
+        (λ told_l t low high. header_leaves (disk_now a) (e.disk t) (short told)
+        (subst (λ (d : Disk). IsWriting d 0 plain_file (e.disk t)) (disk_at_len told) (during told_l t low high))) told
 
     module _ (done : IsTrue l.tells → disk_now e ≡ synced (written (disk_now l) 0 plain_file)) where
       disk_at_write : IsTrue a.tells → disk_now e ≡ synced (written (synced (disk_now a)) 0 plain_file)

@@ -28,7 +28,8 @@ part_within old disk span part = record {
     all_old = λ k d low. inl (All-contains_itself old.loose k d low)
 
 -- one more write within the range
-pub more_within : (old mid disk : Disk) (span inner : Span) → WrittenWithin old span mid → WrittenPart mid inner disk → IsWithin span inner → WrittenWithin old span disk
+pub more_within : (old mid disk : Disk) (span inner : Span) → WrittenWithin old span mid → WrittenPart mid inner disk → IsWithin span inner
+    → WrittenWithin old span disk
 more_within old mid disk span inner before part within = record {
   stable = part.stable ∙ before.stable;
   loose = ⊎_elim
@@ -99,8 +100,11 @@ module _ (at n : ℕ) (old x : List ℕ) (torn : Torn (record { from = at; to = 
   pub torn_back : drop (at + n) x ≡ drop (at + n) old
   torn_back = elim (cases_lt (at + n) (length old)) [
     | inl inside ↦
-        let long : length (drop (at + n) x) ≡ length (drop (at + n) old) = omega (arith, length-drop (at + n) x, length-drop (at + n) old, torn.no_shorter, torn.no_longer) in
+        let long : length (drop (at + n) x) ≡ length (drop (at + n) old) =
+        omega (arith, length-drop (at + n) x, length-drop (at + n) old, torn.no_shorter, torn.no_longer) in
         ext_get_or 0 (drop (at + n) x) (drop (at + n) old) long
-        (λ i below. get_or-drop (at + n) x i 0 ∙ torn.kept (at + n + i) (omega (arith, below, length-drop (at + n) x, torn.no_longer)) (inr (omega arith)) ∙ sym (get_or-drop (at + n) old i 0))
+        (λ i below. get_or-drop (at + n) x i 0
+        ∙ torn.kept (at + n + i) (omega (arith, below, length-drop (at + n) x, torn.no_longer)) (inr (omega arith))
+        ∙ sym (get_or-drop (at + n) old i 0))
     | inr past ↦ drop_all (at + n) x (omega (arith, torn.no_longer, past)) ∙ sym (drop_all (at + n) old past)
   ]

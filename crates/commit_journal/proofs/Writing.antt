@@ -7,11 +7,13 @@ use Rattle.host_port.proofs.Replaying.{whole_write}
 use Rattle.commit_journal.specs.TornWrites.{IsWriting}
 use Rattle.commit_journal.proofs.Torn.{part_within}
 
-module _ (a b : Told) (at : ℕ) (bytes : List ℕ) (part : Throughout a b (λ disk said. WrittenPart (disk_now a) (record { from = at; to = at + length bytes }) disk)) where
+module _ (a b : Told) (at : ℕ) (bytes : List ℕ)
+    (part : Throughout a b (λ disk said. WrittenPart (disk_now a) (record { from = at; to = at + length bytes }) disk)) where
   pub writes : Throughout a b (λ disk said. IsWriting (disk_now a) at bytes disk)
   writes told t low high = inl (part_within (disk_now a) (b.disk t) _ (part told t low high))
 
-  pub writes_and_syncs : (c : Told) → GoesOn a b → GoesOn b c → (IsTrue a.tells → at ≤ length (disk_now a).now) → (IsTrue a.tells → disk_now b ≡ written (disk_now a) at bytes)
+  pub writes_and_syncs : (c : Told) → GoesOn a b → GoesOn b c → (IsTrue a.tells → at ≤ length (disk_now a).now)
+      → (IsTrue a.tells → disk_now b ≡ written (disk_now a) at bytes)
       → Throughout b c (λ disk said. (disk ≡ disk_now b) ⊎ (disk ≡ synced (disk_now b))) → Throughout a c (λ disk said. IsWriting (disk_now a) at bytes disk)
   writes_and_syncs c ab bc fits done sync told = carry_on a b c (λ disk said. IsWriting (disk_now a) at bytes disk) ab bc writes
       (λ told_b t low high. ⊎_elim

@@ -133,7 +133,8 @@ pub record IsAtRest (disk : Disk) (forms : List (List ℕ)) (end : ℕ) : Type 0
 
 -- the byte at the gate is as it was and isn't loose, or what stands after it is stable
 abbrev pub IsGateLast : Disk → ℕ → List ℕ → Disk → Type 0
-IsGateLast old gate behind disk = CrashLeaves (λ x. slice_index x gate ≡ slice_index old.now gate) disk ⊎ (take (length behind) (drop (gate + 1) disk.stable) ≡ behind)
+IsGateLast old gate behind disk =
+    CrashLeaves (λ x. slice_index x gate ≡ slice_index old.now gate) disk ⊎ (take (length behind) (drop (gate + 1) disk.stable) ≡ behind)
 
 -- what contracts see of a journal: the offset of its end, and whether an append failed
 pub record JournalState : Type 0 where

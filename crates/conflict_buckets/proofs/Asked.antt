@@ -38,7 +38,8 @@ any_false (o ∷ os) = any_false os
 
 pub others_first : (meta : Meta) (os ps : List Operation) → have_pair meta os ps ≡ meets_some meta os ps
 others_first meta os [] = any_false os
-others_first meta os (p ∷ ps) = any_or (λ o. interferes meta o p) (λ o. list_any (interferes meta o) ps) os ∙ ap (λ b. meets_one meta os p || b) (others_first meta os ps)
+others_first meta os (p ∷ ps) =
+    any_or (λ o. interferes meta o p) (λ o. list_any (interferes meta o) ps) os ∙ ap (λ b. meets_one meta os p || b) (others_first meta os ps)
 
 -- ---- by the prints
 first_same : (x y : List Cell × List Cell) (xs ys : List (List Cell × List Cell)) → x ∷ xs ≡ y ∷ ys → (x.0 ≡ y.0) × (x.1 ≡ y.1)
@@ -47,7 +48,8 @@ first_same x y xs ys h = (cc, cc)
 rest_same : (x y : List Cell × List Cell) (xs ys : List (List Cell × List Cell)) → x ∷ xs ≡ y ∷ ys → xs ≡ ys
 rest_same x y xs ys h = cc
 
-pub prints_meet : (meta : Meta) (prints : List Print) (os : List Operation) (p : Print) (o : Operation) → shown prints ≡ printed meta os → cells p.writes ≡ op_writes meta o → cells p.reads ≡ op_reads o → list_any (prints_interfere p) prints ≡ meets_one meta os o
+pub prints_meet : (meta : Meta) (prints : List Print) (os : List Operation) (p : Print) (o : Operation) → shown prints ≡ printed meta os
+    → cells p.writes ≡ op_writes meta o → cells p.reads ≡ op_reads o → list_any (prints_interfere p) prints ≡ meets_one meta os o
 unfolding shown printed
 prints_meet meta [] [] p o h w r = refl
 prints_meet meta [] (q ∷ os) p o h w r = cc
@@ -55,7 +57,8 @@ prints_meet meta (x ∷ prints) [] p o h w r = cc
 prints_meet meta (x ∷ prints) (q ∷ os) p o h w r =
     let f = first_same (cells x.writes, cells x.reads) (op_writes meta q, op_reads q) (shown prints) (printed meta os) h in
     let here : prints_interfere p x ≡ interferes meta q o = prints_tell meta o q p x w r f.0 f.1 ∙ interference_is_symmetric meta o q in
-    let later = prints_meet meta prints os p o (rest_same (cells x.writes, cells x.reads) (op_writes meta q, op_reads q) (shown prints) (printed meta os) h) w r in
+    let later = prints_meet meta prints os p o
+    (rest_same (cells x.writes, cells x.reads) (op_writes meta q, op_reads q) (shown prints) (printed meta os) h) w r in
     λ i. here i || later i
 
 -- ---- one of the others more
@@ -68,8 +71,10 @@ module _ (meta : Meta) (os ps : List Operation) (i : ℕ) (p : Operation) (low :
   pub found_here : have_pair meta os ps ≡ meets_some meta os (drop i ps) → meets_one meta os p ≡ true → true ≡ have_pair meta os ps
   found_here so_far on = sym (so_far ∙ opened ∙ ap (λ b. b || meets_some meta os (drop (i + 1) ps)) on)
 
-  pub found_later : have_pair meta os ps ≡ meets_some meta os (drop i ps) → meets_one meta os p ≡ false → have_pair meta os ps ≡ meets_some meta os (drop (i + 1) ps)
+  pub found_later : have_pair meta os ps ≡ meets_some meta os (drop i ps) → meets_one meta os p ≡ false
+      → have_pair meta os ps ≡ meets_some meta os (drop (i + 1) ps)
   found_later so_far off = so_far ∙ opened ∙ ap (λ b. b || meets_some meta os (drop (i + 1) ps)) off
 
-pub found_none : (meta : Meta) (os ps : List Operation) (i : ℕ) → length ps ≤ i → have_pair meta os ps ≡ meets_some meta os (drop i ps) → false ≡ have_pair meta os ps
+pub found_none : (meta : Meta) (os ps : List Operation) (i : ℕ) → length ps ≤ i → have_pair meta os ps ≡ meets_some meta os (drop i ps)
+    → false ≡ have_pair meta os ps
 found_none meta os ps i past so_far = sym (so_far ∙ ap (meets_some meta os) (drop_past ps i past))

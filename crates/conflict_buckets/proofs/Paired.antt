@@ -1,5 +1,6 @@
 -- The pairs so far, and those that are left.
-use Rattle.std.proofs.Common.{◌≡◌, ℕ, suc, ◌+◌, ◌<◌, ◌≤◌, Bool, true, false, cond, List, [], ◌∷◌, ◌++◌, refl, sym, ap, ◌∙◌, drop, length, get_or, arith, drop-cons, append_assoc, append-nil}
+use Rattle.std.proofs.Common.{◌≡◌, ℕ, suc, ◌+◌, ◌<◌, ◌≤◌, Bool, true, false, cond, List, [], ◌∷◌, ◌++◌, refl, sym, ap, ◌∙◌, drop, length, get_or}
+use Rattle.std.proofs.Common.{arith, drop-cons, append_assoc, append-nil}
 use Rattle.std.proofs.lemmas.Option.{get_or_from_slice_get}
 use Rattle.ecore_meta.specs.Meta.{Meta}
 use Rattle.model_state.specs.declared.operation.Operation.{Operation}
@@ -14,7 +15,8 @@ use Rattle.conflict_buckets.proofs.Empty.{drop_past}
 pairs_open : (meta : Meta) (ts ms : List Operation) (i : ℕ) (found whole : List (ℕ × ℕ)) (a : Operation) → i < length ts → a ≡ get_or ts i a
     → found ++ pairs_from meta i (drop i ts) ms ≡ whole
     → found ++ (pairs_with meta i a 0 ms ++ pairs_from meta (suc i) (drop (suc i) ts) ms) ≡ whole
-pairs_open meta ts ms i found whole a low is h = ap (λ os. found ++ pairs_from meta i os ms) (sym (drop-cons ts i a low ∙ ap (λ x. x ∷ drop (suc i) ts) (sym is))) ∙ h
+pairs_open meta ts ms i found whole a low is h =
+    ap (λ os. found ++ pairs_from meta i os ms) (sym (drop-cons ts i a low ∙ ap (λ x. x ∷ drop (suc i) ts) (sym is))) ∙ h
 
 -- those of one operation more come after the others
 pub pairs_further : (meta : Meta) (ts ms : List Operation) (i : ℕ) (found new whole : List (ℕ × ℕ)) → i < length ts
@@ -24,7 +26,8 @@ pairs_further meta ts ms i found new whole low more h =
     let p = at_place ts i low in
     let is : p.0 ≡ get_or ts i p.0 = sym (get_or_from_slice_get ts i p.0 p.0 p.1) in
     let e : i + 1 ≡ suc i = omega arith in
-    ap (λ n. new ++ pairs_from meta n (drop n ts) ms) e ∙ more p.0 (pairs_from meta (suc i) (drop (suc i) ts) ms) is ∙ pairs_open meta ts ms i found whole p.0 low is h
+    ap (λ n. new ++ pairs_from meta n (drop n ts) ms) e ∙ more p.0 (pairs_from meta (suc i) (drop (suc i) ts) ms) is
+    ∙ pairs_open meta ts ms i found whole p.0 low is h
 
 -- no pair is left where no operation of mine is
 pub with_end : (meta : Meta) (i k : ℕ) (a : Operation) (ms : List Operation) (found rest whole : List (ℕ × ℕ)) → length ms ≤ k
@@ -38,7 +41,9 @@ pairs_next meta ms i k found rest whole a b t low is on h =
     let e : suc k ≡ k + 1 = omega arith in
     let next : drop k ms ≡ b ∷ drop (k + 1) ms = drop-cons ms k b low ∙ (λ n. sym is n ∷ drop (e n) ms) in
     let later = pairs_with meta i a (k + 1) (drop (k + 1) ms) in
-    let opened : pairs_with meta i a k (drop k ms) ≡ cond t ((i, k) ∷ later) later = ap (pairs_with meta i a k) next ∙ (λ n. cond (on n) ((i, k) ∷ pairs_with meta i a (e n) (drop (k + 1) ms)) (pairs_with meta i a (e n) (drop (k + 1) ms))) in
+    let opened : pairs_with meta i a k (drop k ms) ≡ cond t ((i, k) ∷ later) later =
+    ap (pairs_with meta i a k) next
+    ∙ (λ n. cond (on n) ((i, k) ∷ pairs_with meta i a (e n) (drop (k + 1) ms)) (pairs_with meta i a (e n) (drop (k + 1) ms))) in
     both t later ∙ ap (λ l. found ++ (l ++ rest)) (sym opened) ∙ h
   where
     both : (t : Bool) (later : List (ℕ × ℕ))
@@ -46,7 +51,8 @@ pairs_next meta ms i k found rest whole a b t low is on h =
     both true later = append_assoc found ((i, k) ∷ []) (later ++ rest)
     both false later = refl
 
-module _ (meta : Meta) (left right : List Print) (ts ms : List Operation) (h : shown left ≡ printed meta ts) (g : shown right ≡ printed meta ms) (i k : ℕ) (p q : Print) (low : i < length ts) (high : k < length ms) (p_is : p ≡ get_or left i p) (q_is : q ≡ get_or right k q) where
+module _ (meta : Meta) (left right : List Print) (ts ms : List Operation) (h : shown left ≡ printed meta ts) (g : shown right ≡ printed meta ms)
+    (i k : ℕ) (p q : Print) (low : i < length ts) (high : k < length ms) (p_is : p ≡ get_or left i p) (q_is : q ≡ get_or right k q) where
   pub pair_turn : (found rest whole : List (ℕ × ℕ)) (t : Bool)
       → cells_interfere (cells p.writes) (cells p.reads) (cells q.writes) (cells q.reads) ≡ t → (a : Operation) → a ≡ get_or ts i a
       → found ++ (pairs_with meta i a k (drop k ms) ++ rest) ≡ whole

@@ -1,5 +1,6 @@
 -- Labels that are spread from operation to operation are those of the definition.
-use Rattle.std.proofs.Common.{◌≡◌, ◌≢◌, ℕ, zero, suc, ◌+◌, ◌<◌, ◌≤◌, Bool, true, false, ◌||◌, List, [], ◌∷◌, ◌++◌, refl, sym, ap, subst, inl, inr, ◌∙◌, length, get_or, set, arith, replicate, length-set, length-append, get_or-set_same, get_or-set_other}
+use Rattle.std.proofs.Common.{◌≡◌, ◌≢◌, ℕ, zero, suc, ◌+◌, ◌<◌, ◌≤◌, Bool, true, false, ◌||◌, List, [], ◌∷◌, ◌++◌, refl, sym, ap, subst, inl, inr}
+use Rattle.std.proofs.Common.{◌∙◌, length, get_or, set, arith, replicate, length-set, length-append, get_or-set_same, get_or-set_other}
 use Rattle.std.specs.Prelude.{◌⊎◌, Some, slice_get}
 use Rattle.std.specs.List.{Contains}
 use Rattle.std.proofs.lemmas.List.{get_or_append_left, length-replicate, ext_get_or}
@@ -35,7 +36,9 @@ unset_all zero = refl
 unset_all (suc n) = ap suc (unset_all n)
 
 flag_kept : (flags : List Bool) (p k : ℕ) → p < length flags → get_or flags k false ≡ true → get_or (set flags p true) k false ≡ true
-flag_kept flags p k low on = same_or_not k p (λ e. ap (λ n. get_or (set flags p true) n false) e ∙ get_or-set_same flags p true false low) (λ f. get_or-set_other flags p k true false f ∙ on)
+flag_kept flags p k low on =
+    same_or_not k p (λ e. ap (λ n. get_or (set flags p true) n false) e ∙ get_or-set_same flags p true false low)
+    (λ f. get_or-set_other flags p k true false f ∙ on)
 
 flag_back : (flags : List Bool) (p k : ℕ) → get_or (set flags p true) k false ≡ true → (k ≡ p) ⊎ (get_or flags k false ≡ true)
 flag_back flags p k on = same_or_not k p (λ e. inl e) (λ f. inr (sym (get_or-set_other flags p k true false f) ∙ on))
@@ -49,7 +52,8 @@ turned false false true d e = ap (λ x. x || true) e
 turned false false false d e = ap (λ x. x || false) e
 
 interfere_turned : (p q : Print) → prints_interfere p q ≡ prints_interfere q p
-interfere_turned p q = turned (meets (cells p.writes) (cells q.writes)) (meets (cells p.writes) (cells q.reads)) (meets (cells q.writes) (cells p.reads)) (meets (cells q.writes) (cells p.writes)) (meets_turned (cells p.writes) (cells q.writes))
+interfere_turned p q = turned (meets (cells p.writes) (cells q.writes)) (meets (cells p.writes) (cells q.reads))
+    (meets (cells q.writes) (cells p.reads)) (meets (cells q.writes) (cells p.writes)) (meets_turned (cells p.writes) (cells q.writes))
 
 meets_turn : (prints : List Print) (i k : ℕ) → Meets prints i k → Meets prints k i
 meets_turn prints i k m = record { one = m.other; other = m.one; first = m.second; second = m.first; meets = interfere_turned m.other m.one ∙ m.meets }
@@ -62,7 +66,9 @@ linked_on prints start i k on m meta ops is =
     let high : k < length ops = subst (λ n. k < n) many (slice_get_within prints k m.other m.second) in
     let a = at_place ops i low in
     let b = at_place ops k high in
-    let tells = places_tell meta prints ops i k m.one m.other a.0 b.0 is low high (sym (get_or_from_slice_get prints i m.one m.one m.first)) (sym (get_or_from_slice_get prints k m.other m.other m.second)) (sym (get_or_from_slice_get ops i a.0 a.0 a.1)) (sym (get_or_from_slice_get ops k b.0 b.0 b.1)) in
+    let tells = places_tell meta prints ops i k m.one m.other a.0 b.0 is low high (sym (get_or_from_slice_get prints i m.one m.one m.first))
+    (sym (get_or_from_slice_get prints k m.other m.other m.second)) (sym (get_or_from_slice_get ops i a.0 a.0 a.1))
+    (sym (get_or_from_slice_get ops k b.0 b.0 b.1)) in
     next (on meta ops is) a.1 b.1 (sym tells ∙ m.meets)
 
 -- what the index finds near the operation at a place
@@ -84,7 +90,9 @@ meets_met prints place k p low is m =
     }
 
 -- ---- the beginning
-pub spread_begin : (prints : List Print) (ls : List ℕ) (flags : List Bool) (order : List ℕ) → length ls ≡ length prints → ((k : ℕ) → k < length prints → get_or ls k 0 ≡ k) → flags ≡ replicate (length prints) false → order ≡ [] → AreSpread prints 0 (length order) ls flags order
+pub spread_begin : (prints : List Print) (ls : List ℕ) (flags : List Bool) (order : List ℕ) → length ls ≡ length prints
+    → ((k : ℕ) → k < length prints → get_or ls k 0 ≡ k) → flags ≡ replicate (length prints) false → order ≡ []
+    → AreSpread prints 0 (length order) ls flags order
 spread_begin prints ls flags order size own unset_is none = record {
   labels_size = size;
   reached_size = ap length unset_is ∙ length-replicate (length prints) false;
@@ -111,7 +119,8 @@ spread_begin prints ls flags order size own unset_is none = record {
     off k on = never (length prints) k on
 
 -- ---- one operation more is reached
-module _ (prints : List Print) (start at place : ℕ) (ls : List ℕ) (flags : List Bool) (order : List ℕ) (is : AreSpread prints start at ls flags order) (there : place < length prints) (new : get_or flags place false ≡ false) (linked : AreLinked prints start place) where
+module _ (prints : List Print) (start at place : ℕ) (ls : List ℕ) (flags : List Bool) (order : List ℕ) (is : AreSpread prints start at ls flags order)
+    (there : place < length prints) (new : get_or flags place false ≡ false) (linked : AreLinked prints start place) where
   in_labels : place < length ls
   in_labels = let e = is.labels_size in omega (arith, e, there)
 
@@ -135,10 +144,12 @@ module _ (prints : List Print) (start at place : ℕ) (ls : List ℕ) (flags : L
   last = get_or-append_seam order place [] 0
 
   -- a place of the longer order is one of the order, or the last
-  by_place : (P : ℕ → Type 0) (m : ℕ) → m < length (order ++ place ∷ []) → (m < length order → P (get_or order m 0)) → (m ≡ length order → P place) → P (get_or (order ++ place ∷ []) m 0)
+  by_place : (P : ℕ → Type 0) (m : ℕ) → m < length (order ++ place ∷ []) → (m < length order → P (get_or order m 0)) → (m ≡ length order → P place)
+      → P (get_or (order ++ place ∷ []) m 0)
   by_place P m low old own = same_or_not m (length order)
       (λ e. subst P (sym (ap (λ n. get_or (order ++ place ∷ []) n 0) e ∙ last)) (own e))
-      (λ f. let size = longer in let under : m < length order = less m (length order) (omega (arith, low, size)) f in subst P (sym (stands m under)) (old under))
+      (λ f. let size = longer in let under : m < length order = less m (length order) (omega (arith, low, size)) f
+      in subst P (sym (stands m under)) (old under))
     where
       less : (m n : ℕ) → m < suc n → (m ≡ n → ⊥) → m < n
       less m n h f = same_or_not m n (λ e. absurd (f e)) (λ g. omega (arith, h, g))
@@ -155,10 +166,12 @@ module _ (prints : List Print) (start at place : ℕ) (ls : List ℕ) (flags : L
     reached_size = length-set flags place true ∙ is.reached_size;
     count = let less = unset_less flags place in_flags new in let size = longer in let was = is.count in omega (arith, less, size, was);
     low = λ k within. same_or_not k place
-        (λ e. let l = ap (λ n. get_or (set ls place start) n 0) e ∙ get_or-set_same ls place start 0 in_labels in let least = not_before in omega (arith, l, least, e))
+        (λ e. let l = ap (λ n. get_or (set ls place start) n 0) e ∙ get_or-set_same ls place start 0 in_labels in let least = not_before
+        in omega (arith, l, least, e))
         (λ f. let l = get_or-set_other ls place k start 0 f in let was = is.low k within in omega (arith, l, was));
     linked = λ k within. same_or_not k place
-        (λ e. subst (λ l. AreLinked prints l k) (sym (ap (λ n. get_or (set ls place start) n 0) e ∙ get_or-set_same ls place start 0 in_labels)) (subst (AreLinked prints start) (sym e) linked))
+        (λ e. subst (λ l. AreLinked prints l k) (sym (ap (λ n. get_or (set ls place start) n 0) e ∙ get_or-set_same ls place start 0 in_labels))
+        (subst (AreLinked prints start) (sym e) linked))
         (λ f. subst (λ l. AreLinked prints l k) (sym (get_or-set_other ls place k start 0 f)) (is.linked k within));
     ordered = λ k on. elim (flag_back flags place k on) [
       | inl e ↦ subst (Contains (order ++ place ∷ [])) (sym e) (Contains-push order place)
@@ -172,8 +185,11 @@ module _ (prints : List Print) (start at place : ℕ) (ls : List ℕ) (flags : L
         let top = is.within in
         let low : m < length order = omega (arith, top, passed) in
         let same = stands m low in
-        let was = is.done m k passed (subst (λ x. Meets prints x k) same meets) in
-        (flag_kept flags place k in_flags was.0, label_kept k was.0 ∙ was.1 ∙ sym (label_kept (get_or order m 0) (is.below m low).1) ∙ ap (λ x. get_or (set ls place start) x 0) (sym same));
+        let was = is.done m k passed (subst (λ x. Meets prints x k) same meets) in (
+          flag_kept flags place k in_flags was.0,
+          label_kept k was.0 ∙ was.1 ∙ sym (label_kept (get_or order m 0) (is.below m low).1)
+              ∙ ap (λ x. get_or (set ls place start) x 0) (sym same),
+        );
     waiting = λ m past within. by_place (λ x. get_or (set ls place start) x 0 ≡ start) m within
         (λ low. label_kept (get_or order m 0) (is.below m low).1 ∙ is.waiting m past low)
         (λ e. get_or-set_same ls place start 0 in_labels);
@@ -196,7 +212,8 @@ flag_read (f ∷ flags) zero b low is = sym is
 flag_read (f ∷ flags) (suc i) b low is = flag_read flags i b (omega (arith, low)) is
 
 -- by what the calls leave
-pub reached_by : (prints : List Print) (start at place : ℕ) (ls made : List ℕ) (flags more : List Bool) (order longer : List ℕ) → AreSpread prints start at ls flags order → place < length prints → get_or flags place false ≡ false → AreLinked prints start place
+pub reached_by : (prints : List Print) (start at place : ℕ) (ls made : List ℕ) (flags more : List Bool) (order longer : List ℕ)
+    → AreSpread prints start at ls flags order → place < length prints → get_or flags place false ≡ false → AreLinked prints start place
     → made ≡ set ls place start → more ≡ set flags place true → longer ≡ order ++ place ∷ [] → AreSpread prints start at made more longer
 reached_by prints start at place ls made flags more order longer is there new linked l f o =
     subst (λ x. AreSpread prints start at x more longer) (sym l)
@@ -215,7 +232,8 @@ further_on f g h o p q x y = record {
 }
 
 -- what is found near an operation that waits is linked with its label
-pub near_linked : (prints : List Print) (start at place : ℕ) (ls : List ℕ) (flags : List Bool) (order : List ℕ) (p : Print) (near : List ℕ) → AreSpread prints start at ls flags order → at < length order → place ≡ get_or order at 0 → p ≡ get_or prints place p
+pub near_linked : (prints : List Print) (start at place : ℕ) (ls : List ℕ) (flags : List Bool) (order : List ℕ) (p : Print) (near : List ℕ)
+    → AreSpread prints start at ls flags order → at < length order → place ≡ get_or order at 0 → p ≡ get_or prints place p
     → AllMet prints p near → (k : ℕ) → Contains near k → AreLinked prints start k
 near_linked prints start at place ls flags order p near is low place_is p_is all k on =
     let there : place < length prints = subst (λ n. n < length prints) (sym place_is) (is.below at low).0 in
@@ -230,14 +248,16 @@ less_or_not (suc m) zero low high = high (omega arith)
 less_or_not (suc m) (suc n) low high = less_or_not m n (λ h. low (omega (arith, h))) (λ h. high (omega (arith, h)))
 
 -- once all that interfere with it are reached, it is passed
-module _ (prints : List Print) (start at : ℕ) (ls : List ℕ) (flags : List Bool) (order : List ℕ) (is : AreSpread prints start at ls flags order) (low : at < length order) (all : (k : ℕ) → Meets prints (get_or order at 0) k → get_or flags k false ≡ true) where
+module _ (prints : List Print) (start at : ℕ) (ls : List ℕ) (flags : List Bool) (order : List ℕ) (is : AreSpread prints start at ls flags order)
+    (low : at < length order) (all : (k : ℕ) → Meets prints (get_or order at 0) k → get_or flags k false ≡ true) where
   same_label : (k : ℕ) → Meets prints (get_or order at 0) k → get_or ls k 0 ≡ get_or ls (get_or order at 0) 0
   same_label k meets =
       let found = at_from_Contains order k (is.ordered k (all k meets)) in
       let e : get_or order found.0 0 ≡ k = found.2 0 in
       ap (λ n. get_or ls n 0) (sym e)
       ∙ less_or_not found.0 at
-      (λ passed. sym (is.done found.0 (get_or order at 0) passed (subst (λ x. Meets prints x (get_or order at 0)) (sym e) (meets_turn prints (get_or order at 0) k meets))).1)
+      (λ passed. sym (is.done found.0 (get_or order at 0) passed
+      (subst (λ x. Meets prints x (get_or order at 0)) (sym e) (meets_turn prints (get_or order at 0) k meets))).1)
       (λ waits. is.waiting found.0 waits found.1 ∙ sym (is.waiting at (omega arith) low))
 
   pub passed_one : AreSpread prints start (at + 1) ls flags order
@@ -261,8 +281,10 @@ module _ (prints : List Print) (start at : ℕ) (ls : List ℕ) (flags : List Bo
   }
 
 -- all that interfere with an operation that waits are reached, where those are that weren't
-pub all_reached : (prints : List Print) (start at place : ℕ) (ls : List ℕ) (flags more : List Bool) (order longer : List ℕ) (p : Print) (near : List ℕ) → AreSpread prints start at ls flags order → at < length order → place ≡ get_or order at 0 → p ≡ get_or prints place p
-    → ((k : ℕ) → get_or flags k false ≡ false → IsMet prints p k → Contains near k) → ((k : ℕ) → Contains near k → get_or more k false ≡ true) → Further flags more order longer
+pub all_reached : (prints : List Print) (start at place : ℕ) (ls : List ℕ) (flags more : List Bool) (order longer : List ℕ) (p : Print)
+    (near : List ℕ) → AreSpread prints start at ls flags order → at < length order → place ≡ get_or order at 0 → p ≡ get_or prints place p
+    → ((k : ℕ) → get_or flags k false ≡ false → IsMet prints p k → Contains near k) → ((k : ℕ) → Contains near k → get_or more k false ≡ true)
+    → Further flags more order longer
     → (k : ℕ) → Meets prints (get_or longer at 0) k → get_or more k false ≡ true
 all_reached prints start at place ls flags more order longer p near is low place_is p_is found all further k meets =
     let there : place < length prints = subst (λ n. n < length prints) (sym place_is) (is.below at low).0 in
@@ -275,7 +297,8 @@ all_reached prints start at place ls flags more order longer p near is low place
     by false off met = all k (found k off met)
 
 -- ---- from start to start
-pub start_on : (prints : List Print) (start at : ℕ) (ls : List ℕ) (flags : List Bool) (order : List ℕ) → AreSpread prints start at ls flags order → length order ≤ at → get_or flags start false ≡ true → AreSpread prints (start + 1) (length order) ls flags order
+pub start_on : (prints : List Print) (start at : ℕ) (ls : List ℕ) (flags : List Bool) (order : List ℕ) → AreSpread prints start at ls flags order
+    → length order ≤ at → get_or flags start false ≡ true → AreSpread prints (start + 1) (length order) ls flags order
 start_on prints start at ls flags order is past on = record {
   labels_size = is.labels_size;
   reached_size = is.reached_size;
@@ -294,11 +317,13 @@ start_on prints start at ls flags order is past on = record {
     less m n h f = same_or_not m n (λ e. absurd (f e)) (λ g. omega (arith, h, g))
 
 -- how many are left to pass
-pub few_left : (prints : List Print) (start at : ℕ) (ls : List ℕ) (flags : List Bool) (order : List ℕ) → AreSpread prints start at ls flags order → at < length order → at < length prints
+pub few_left : (prints : List Print) (start at : ℕ) (ls : List ℕ) (flags : List Bool) (order : List ℕ) → AreSpread prints start at ls flags order
+    → at < length order → at < length prints
 few_left prints start at ls flags order is low = let e = is.count in omega (arith, e, low)
 
 -- ---- in the end
-module _ (meta : Meta) (prints : List Print) (ops : List Operation) (ls : List ℕ) (flags : List Bool) (order : List ℕ) (start : ℕ) (shows : shown prints ≡ printed meta ops) (is : AreSpread prints start (length order) ls flags order) (past : length prints ≤ start) where
+module _ (meta : Meta) (prints : List Print) (ops : List Operation) (ls : List ℕ) (flags : List Bool) (order : List ℕ) (start : ℕ)
+    (shows : shown prints ≡ printed meta ops) (is : AreSpread prints start (length order) ls flags order) (past : length prints ≤ start) where
   many : length prints ≡ length ops
   many = as_many meta prints ops shows
 
@@ -310,7 +335,8 @@ module _ (meta : Meta) (prints : List Print) (ops : List Operation) (ls : List �
       let high : k < length ops = slice_get_within ops k b at_k in
       let p = at_place prints i (omega (arith, size, low)) in
       let q = at_place prints k (omega (arith, size, high)) in
-      let tells = places_tell meta prints ops i k p.0 q.0 a b shows low high (sym (get_or_from_slice_get prints i p.0 p.0 p.1)) (sym (get_or_from_slice_get prints k q.0 q.0 q.1)) (sym (get_or_from_slice_get ops i a a at_i)) (sym (get_or_from_slice_get ops k b b at_k)) in
+      let tells = places_tell meta prints ops i k p.0 q.0 a b shows low high (sym (get_or_from_slice_get prints i p.0 p.0 p.1))
+      (sym (get_or_from_slice_get prints k q.0 q.0 q.1)) (sym (get_or_from_slice_get ops i a a at_i)) (sym (get_or_from_slice_get ops k b b at_k)) in
       let meets : Meets prints i k = record { one = p.0; other = q.0; first = p.1; second = q.1; meets = tells ∙ on } in
       let found = at_from_Contains order i (is.ordered i (is.before i (omega (arith, size, low, past)))) in
       let e : get_or order found.0 0 ≡ i = found.2 0 in

@@ -43,7 +43,8 @@ module _ (place : FinMap id_cmp Place) where
         | Some p ↦ λ is g. above p (top y ys) is g
       ] refl h
     where
-      above : (p : Place) → (IsChain place (get place y) ys → (z : IdBytes) × Up place (length ys) y z) → get place x ≡ Some p → IsChain place (Some p) (y ∷ ys) → (z : IdBytes) × Up place (suc (length ys)) x z
+      above : (p : Place) → (IsChain place (get place y) ys → (z : IdBytes) × Up place (length ys) y z) → get place x ≡ Some p
+          → IsChain place (Some p) (y ∷ ys) → (z : IdBytes) × Up place (suc (length ys)) x z
       above Root up is g = absurd g
       above (Inside b f) up is g =
           let rest = up g.1 in

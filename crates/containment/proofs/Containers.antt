@@ -16,7 +16,8 @@ use Rattle.model_laws.proofs.Births.{has_class}
 use Rattle.containment.specs.Refusals.{IsPlace}
 
 -- an element that is live stands somewhere
-pub stands_somewhere : (meta : Meta) (kind : FinMap id_cmp ℕ) (c : Option ℕ) (p : Option Place) (r : Option ℕ) → is_some c ≡ true → PlaceOk meta kind c p r → (q : Place) × (p ≡ Some q) × (is_some r ≡ true)
+pub stands_somewhere : (meta : Meta) (kind : FinMap id_cmp ℕ) (c : Option ℕ) (p : Option Place) (r : Option ℕ) → is_some c ≡ true
+    → PlaceOk meta kind c p r → (q : Place) × (p ≡ Some q) × (is_some r ≡ true)
 stands_somewhere meta kind None p r live ok = cc
 stands_somewhere meta kind (Some c) None r live ok = absurd ok
 stands_somewhere meta kind (Some c) (Some q) None live ok = absurd ok

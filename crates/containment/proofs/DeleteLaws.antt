@@ -55,7 +55,9 @@ module _ (meta : Meta) (m : State) (good : Good meta m) (e : IdBytes) (xs : List
 
   live_at : is_live m e ≡ true → (y : IdBytes) (n : ℕ) → Up m.place n y e → is_live m y ≡ true
   live_at live y zero up = ap (is_live m) up ∙ live
-  live_at live y (suc n) up = (placed_live meta m.kind (get m.kind y) (Inside up.0 up.1) (get m.prank y) (subst (λ o. PlaceOk meta m.kind (get m.kind y) o (get m.prank y)) up.2 (good.places.stands y))).0
+  live_at live y (suc n) up =
+      (placed_live meta m.kind (get m.kind y) (Inside up.0 up.1) (get m.prank y)
+      (subst (λ o. PlaceOk meta m.kind (get m.kind y) o (get m.prank y)) up.2 (good.places.stands y))).0
 
   pub below_live : is_live m e ≡ true → (y : IdBytes) → In y xs → is_live m y ≡ true
   below_live live y is = let at = at_or_below y is in live_at live y at.0 at.1
@@ -64,19 +66,23 @@ module _ (meta : Meta) (m : State) (good : Good meta m) (e : IdBytes) (xs : List
   below_is y up chain =
       elim (is_among xs y) as (λ b. is_among xs y ≡ b → b ≡ is_among (y ∷ up) e) [
         | true ↦ λ is. let at = at_or_below y (among_in y xs is) in sym (in_among e (y ∷ up) (up_in m.place at.0 y e up chain at.1))
-        | false ↦ λ far. sym (not_among e (y ∷ up) (λ is. let at = chain_up m.place y e up chain is in true_false (is_among xs y) (in_among y xs (all_in y at.0 at.1)) far))
+        | false ↦ λ far. sym (not_among e (y ∷ up)
+            (λ is. let at = chain_up m.place y e up chain is in true_false (is_among xs y) (in_among y xs (all_in y at.0 at.1)) far))
       ] refl
 
   distinct_from : (ys : List IdBytes) → Ordered meta m good known ys → Distinct ys
   distinct_from [] o = tt
   distinct_from (y ∷ ys) o = (o.1, distinct_from ys o.2)
 
-  fresh_from : (sound : Sound meta) (ys done : List IdBytes) → ((y : IdBytes) → In y ys → is_among xs y ≡ true) → ((y : IdBytes) → In y ys → In y done → ⊥) → Distinct ys → Fresh meta sound m.row (slots_of meta m is_plain xs) xs (no_opposites meta sound m good xs) done ys
+  fresh_from : (sound : Sound meta) (ys done : List IdBytes) → ((y : IdBytes) → In y ys → is_among xs y ≡ true)
+      → ((y : IdBytes) → In y ys → In y done → ⊥) → Distinct ys
+      → Fresh meta sound m.row (slots_of meta m is_plain xs) xs (no_opposites meta sound m good xs) done ys
   fresh_from sound [] done one far d = tt
   fresh_from sound (y ∷ ys) done one far d = (
     not_among y done (far y (inl refl)),
     one y (inl refl),
-    fresh_from sound ys (y ∷ done) (λ z h. one z (inr h)) (λ z h g. elim g [ inl same_one ↦ d.0 (subst (λ (w : IdBytes). In w ys) same_one h) | inr l ↦ far z (inr h) l ]) d.1,
+    fresh_from sound ys (y ∷ done) (λ z h. one z (inr h))
+        (λ z h g. elim g [ inl same_one ↦ d.0 (subst (λ (w : IdBytes). In w ys) same_one h) | inr l ↦ far z (inr h) l ]) d.1,
   )
 
   all_live : is_live m e ≡ true → (ys : List IdBytes) → ((y : IdBytes) → In y ys → In y xs) → AllLive m ys
@@ -104,7 +110,10 @@ module _ (meta : Meta) (m : State) (good : Good meta m) (e : IdBytes) (xs : List
     no_slots = same row_order _ _ (λ k. sym (get-without row_order (is_touched meta []) m.row k))
 
     none_done : row_out ≡ without (is_gone meta references []) m.row
-    none_done = same row_order _ _ (λ k. get-without row_order (is_touched meta references) m.row k ∙ ap (λ b. cond b None (get m.row k)) (sym (or_false (is_touched meta references k))) ∙ sym (get-without row_order (is_gone meta references []) m.row k))
+    none_done = same row_order _ _
+        (λ k. get-without row_order (is_touched meta references) m.row k
+        ∙ ap (λ b. cond b None (get m.row k)) (sym (or_false (is_touched meta references k)))
+        ∙ sym (get-without row_order (is_gone meta references []) m.row k))
       where
         or_false : (b : Bool) → b || false ≡ b
         or_false true = refl
@@ -119,9 +128,11 @@ module _ (meta : Meta) (m : State) (good : Good meta m) (e : IdBytes) (xs : List
         (incoming_leads meta sound m.row references xs (no_opposites meta sound m good xs) xs [] (record m { row = row_out }) part_out.good none_done
         (fresh_from sound xs [] (λ y h. in_among y xs h) (λ y h none. none) (distinct_from xs order)))
 
-    part_values : fold meta (record m { row = row_left }) (values_made meta m (slots_of meta m holds_values xs)) ≡ Some (record m { row = row_left; attr = attr_left })
+    part_values : fold meta (record m { row = row_left }) (values_made meta m (slots_of meta m holds_values xs)) ≡ Some
+        (record m { row = row_left; attr = attr_left })
     part_values =
-        values_lead meta sound m (slots_of meta m holds_values xs) (record m { row = row_left }) part_in.good (attributes meta m good xs) (slots_distinct meta m holds_values xs (distinct_from xs order)) (kept_all meta sound m (slots_of meta m holds_values xs))
+        values_lead meta sound m (slots_of meta m holds_values xs) (record m { row = row_left }) part_in.good (attributes meta m good xs)
+        (slots_distinct meta m holds_values xs (distinct_from xs order)) (kept_all meta sound m (slots_of meta m holds_values xs))
         ∙ ap (λ (attr : Attrs). Some (record m { row = row_left; attr = attr })) (values_left meta m good xs)
 
     gone_in : {X : Type 0} (b : Bool) (o : Option X) (v : X) → cond b None o ≡ Some v → b ≡ true → ⊥
@@ -130,9 +141,17 @@ module _ (meta : Meta) (m : State) (good : Good meta m) (e : IdBytes) (xs : List
 
     bare : Bare attr_left row_left xs
     bare = record {
-      values = λ k vs is one. gone_in (is_among xs k.0) (get m.attr k) vs (sym (get-without attr_order (λ (k : AttrKey). is_among xs k.0) m.attr k) ∙ is) (in_among k.0 xs one);
-      rows_out = λ k r is one. gone_in (is_among xs k.0 || is_among xs k.2) (get m.row k) r (sym (get-without row_order (λ (k : RowKey). is_among xs k.0 || is_among xs k.2) m.row k) ∙ is) (ap (λ b. b || is_among xs k.2) (in_among k.0 xs one));
-      rows_in = λ k r is one. gone_in (is_among xs k.0 || is_among xs k.2) (get m.row k) r (sym (get-without row_order (λ (k : RowKey). is_among xs k.0 || is_among xs k.2) m.row k) ∙ is) (ap (λ b. is_among xs k.0 || b) (in_among k.2 xs one) ∙ or_true (is_among xs k.0));
+      values = λ k vs is one.
+          gone_in (is_among xs k.0) (get m.attr k) vs (sym (get-without attr_order (λ (k : AttrKey). is_among xs k.0) m.attr k) ∙ is)
+          (in_among k.0 xs one);
+      rows_out = λ k r is one.
+          gone_in (is_among xs k.0 || is_among xs k.2) (get m.row k) r
+          (sym (get-without row_order (λ (k : RowKey). is_among xs k.0 || is_among xs k.2) m.row k) ∙ is)
+          (ap (λ b. b || is_among xs k.2) (in_among k.0 xs one));
+      rows_in = λ k r is one.
+          gone_in (is_among xs k.0 || is_among xs k.2) (get m.row k) r
+          (sym (get-without row_order (λ (k : RowKey). is_among xs k.0 || is_among xs k.2) m.row k) ∙ is)
+          (ap (λ b. is_among xs k.0 || b) (in_among k.2 xs one) ∙ or_true (is_among xs k.0));
     }
       where
         or_true : (b : Bool) → b || true ≡ true
@@ -142,7 +161,8 @@ module _ (meta : Meta) (m : State) (good : Good meta m) (e : IdBytes) (xs : List
     part_gone : fold meta (record m { row = row_left; attr = attr_left }) (gone_made m xs) ≡ Some (removal_after m xs)
     part_gone =
         let before : State = record m { row = row_left; attr = attr_left } in
-        let same_state : before ≡ stripped m attr_left row_left [] = λ i. record { kind = with_none m.kind i; place = with_none m.place i; prank = with_none m.prank i; attr = attr_left; row = row_left } in
+        let same_state : before ≡ stripped m attr_left row_left [] =
+        λ i. record { kind = with_none m.kind i; place = with_none m.place i; prank = with_none m.prank i; attr = attr_left; row = row_left } in
         ap (λ (n : State). fold meta n (gone_made m xs)) same_state
         ∙ elements_lead meta m good known attr_left row_left xs (all_live live xs (λ y h. h)) order bare
 
@@ -150,7 +170,8 @@ module _ (meta : Meta) (m : State) (good : Good meta m) (e : IdBytes) (xs : List
     delete_leads_to =
         fold_append meta m (record m { row = row_out }) (outgoing_made meta m.row [] references) _ part_out.run
         ∙ fold_append meta (record m { row = row_out }) (record m { row = row_left }) (incoming_made meta m.row references xs) _ part_in.run
-        ∙ fold_append meta (record m { row = row_left }) (record m { row = row_left; attr = attr_left }) (values_made meta m (slots_of meta m holds_values xs)) (gone_made m xs) part_values
+        ∙ fold_append meta (record m { row = row_left }) (record m { row = row_left; attr = attr_left })
+        (values_made meta m (slots_of meta m holds_values xs)) (gone_made m xs) part_values
         ∙ part_gone
 
 pub delete_leads : DeleteLeads
@@ -163,4 +184,5 @@ pub subtree_is_below : SubtreeIsBelow
 subtree_is_below meta m good e y up chain = below_is meta m good e (subtree_of meta m e) (subtree_is meta m good (has_children meta m good) e) y up chain
 
 pub subtree_is_live : SubtreeIsLive
-subtree_is_live meta m good e live y is = below_live meta m good e (subtree_of meta m e) (subtree_is meta m good (has_children meta m good) e) live y (among_in y (subtree_of meta m e) is)
+subtree_is_live meta m good e live y is =
+    below_live meta m good e (subtree_of meta m e) (subtree_is meta m good (has_children meta m good) e) live y (among_in y (subtree_of meta m e) is)

@@ -42,7 +42,8 @@ one_more map x xs = same id_order _ _ (λ q.
     ∙ sym (get-without id_order (is_among (x ∷ xs)) map q))
   where
     other : (q : IdBytes) → eq_by_cmp id_cmp q x ≡ false → text_eq q x ≡ false
-    other q far = not_so (text_eq q x) (λ e. true_false (eq_by_cmp id_cmp q x) (subst (λ (z : IdBytes). eq_by_cmp id_cmp q z ≡ true) (text_equality.exact q x e) (own q)) far)
+    other q far = not_so (text_eq q x)
+        (λ e. true_false (eq_by_cmp id_cmp q x) (subst (λ (z : IdBytes). eq_by_cmp id_cmp q z ≡ true) (text_equality.exact q x e) (own q)) far)
       where
         own : (q : IdBytes) → eq_by_cmp id_cmp q q ≡ true
         own q = own_key id_order q
@@ -63,30 +64,44 @@ pub record Bare (attr : Attrs) (row : Rows) (xs : List IdBytes) : Type 0 where
 
 -- the model without some elements, and with these values and rows
 abbrev pub stripped : State → Attrs → Rows → List IdBytes → State
-stripped m attr row xs = record { kind = without (is_among xs) m.kind; place = without (is_among xs) m.place; prank = without (is_among xs) m.prank; attr = attr; row = row }
+stripped m attr row xs =
+    record { kind = without (is_among xs) m.kind; place = without (is_among xs) m.place; prank = without (is_among xs) m.prank; attr = attr; row = row }
 
 abbrev pub AllLive : State → List IdBytes → Type 0
 AllLive m [] = Unit {0}
 AllLive m (x ∷ xs) = (is_live m x ≡ true) × AllLive m xs
 
 module _ (meta : Meta) (m : State) (good : Good meta m) (known : HasChildren meta m) (attr : Attrs) (row : Rows) where
-  gone_can : (x : IdBytes) (xs : List IdBytes) → is_live m x ≡ true → (In x xs → ⊥) → ((c : IdBytes) (f : ℕ) → get m.place c ≡ Some (Inside x f) → In c xs) → Bare attr row (x ∷ xs) → Can meta (stripped m attr row xs) (gone_step m x)
+  gone_can : (x : IdBytes) (xs : List IdBytes) → is_live m x ≡ true → (In x xs → ⊥)
+      → ((c : IdBytes) (f : ℕ) → get m.place c ≡ Some (Inside x f) → In c xs) → Bare attr row (x ∷ xs) → Can meta (stripped m attr row xs) (gone_step m x)
   gone_can x xs live apart_ children bare =
       let n = stripped m attr row xs in
       let far : is_among xs x ≡ false = not_among x xs apart_ in
       let at = live_place meta m good x live in
-      let kind_is : get n.kind x ≡ Some (unwrap_or (get m.kind x) 0) = get-without id_order (is_among xs) m.kind x ∙ ap (λ b. cond b None (get m.kind x)) far ∙ some_of (get m.kind x) live in
-      let place_is : get n.place x ≡ Some (unwrap_or (get m.place x) Root) = get-without id_order (is_among xs) m.place x ∙ ap (λ b. cond b None (get m.place x)) far ∙ at.1 ∙ ap Some (sym (ap (λ o. unwrap_or o Root) at.1)) in
-      let prank_is : get n.prank x ≡ Some (rank_at m.prank x) = get-without id_order (is_among xs) m.prank x ∙ ap (λ b. cond b None (get m.prank x)) far ∙ some_of (get m.prank x) at.2 in
-      let no_values : value_count n x ≡ 0 = count_none attr_order (λ (e : AttrKey × List Value). text_eq x e.0.0) attr (λ k vs is. not_so (text_eq x k.0) (λ e. bare.values k vs is (inl (sym (text_equality.exact x k.0 e))))) in
-      let no_links : link_count n x ≡ 0 = count_none row_order (λ (e : RowKey × ℕ). text_eq x e.0.0 || text_eq x e.0.2) row (λ k r is. neither (text_eq x k.0) (text_eq x k.2) (λ e. bare.rows_out k r is (inl (sym (text_equality.exact x k.0 e)))) (λ e. bare.rows_in k r is (inl (sym (text_equality.exact x k.2 e))))) in
-      let no_inner : inner_count n x ≡ 0 = count_none id_order (λ (e : IdBytes × Place). is_inside x e.1) n.place (λ q p is. outside q p (still_there (is_among xs q) (get m.place q) p (sym (get-without id_order (is_among xs) m.place q) ∙ is))) in
+      let kind_is : get n.kind x ≡ Some (unwrap_or (get m.kind x) 0) =
+      get-without id_order (is_among xs) m.kind x ∙ ap (λ b. cond b None (get m.kind x)) far ∙ some_of (get m.kind x) live in
+      let place_is : get n.place x ≡ Some (unwrap_or (get m.place x) Root) =
+      get-without id_order (is_among xs) m.place x ∙ ap (λ b. cond b None (get m.place x)) far ∙ at.1
+      ∙ ap Some (sym (ap (λ o. unwrap_or o Root) at.1)) in
+      let prank_is : get n.prank x ≡ Some (rank_at m.prank x) =
+      get-without id_order (is_among xs) m.prank x ∙ ap (λ b. cond b None (get m.prank x)) far ∙ some_of (get m.prank x) at.2 in
+      let no_values : value_count n x ≡ 0 =
+      count_none attr_order (λ (e : AttrKey × List Value). text_eq x e.0.0) attr
+      (λ k vs is. not_so (text_eq x k.0) (λ e. bare.values k vs is (inl (sym (text_equality.exact x k.0 e))))) in
+      let no_links : link_count n x ≡ 0 =
+      count_none row_order (λ (e : RowKey × ℕ). text_eq x e.0.0 || text_eq x e.0.2) row
+      (λ k r is. neither (text_eq x k.0) (text_eq x k.2) (λ e. bare.rows_out k r is (inl (sym (text_equality.exact x k.0 e))))
+      (λ e. bare.rows_in k r is (inl (sym (text_equality.exact x k.2 e))))) in
+      let no_inner : inner_count n x ≡ 0 =
+      count_none id_order (λ (e : IdBytes × Place). is_inside x e.1) n.place
+      (λ q p is. outside q p (still_there (is_among xs q) (get m.place q) p (sym (get-without id_order (is_among xs) m.place q) ∙ is))) in
       pass (tests meta n (gone_step m x)) (
         ap is_some kind_is,
         (
           ap (λ o. option_eq nat_eq o (Some (unwrap_or (get m.kind x) 0))) kind_is ∙ number_equality.own (Some (unwrap_or (get m.kind x) 0)),
           (
-            ap (λ o. option_eq place_eq o (Some (unwrap_or (get m.place x) Root))) place_is ∙ (option_equality place_eq place_equality).own (Some (unwrap_or (get m.place x) Root)),
+            ap (λ o. option_eq place_eq o (Some (unwrap_or (get m.place x) Root))) place_is
+                ∙ (option_equality place_eq place_equality).own (Some (unwrap_or (get m.place x) Root)),
             (
               ap (λ o. option_eq nat_eq o (Some (rank_at m.prank x))) prank_is ∙ number_equality.own (Some (rank_at m.prank x)),
               (
@@ -104,17 +119,27 @@ module _ (meta : Meta) (m : State) (good : Good meta m) (known : HasChildren met
 
       outside : (q : IdBytes) (p : Place) → (is_among xs q ≡ false) × (get m.place q ≡ Some p) → is_inside x p ≡ false
       outside q Root at = refl
-      outside q (Inside a f) at = not_so (text_eq x a) (λ e. true_false (is_among xs q) (in_among q xs (children q f (at.1 ∙ ap (λ (z : IdBytes). Some (Inside z f)) (sym (text_equality.exact x a e))))) at.0)
+      outside q (Inside a f) at =
+          not_so (text_eq x a) (λ e.
+          true_false (is_among xs q)
+          (in_among q xs (children q f (at.1 ∙ ap (λ (z : IdBytes). Some (Inside z f)) (sym (text_equality.exact x a e))))) at.0)
 
   less_bare : (x : IdBytes) (xs : List IdBytes) → Bare attr row (x ∷ xs) → Bare attr row xs
-  less_bare x xs bare = record { values = λ k vs is h. bare.values k vs is (inr h); rows_out = λ k r is h. bare.rows_out k r is (inr h); rows_in = λ k r is h. bare.rows_in k r is (inr h) }
+  less_bare x xs bare = record {
+    values = λ k vs is h. bare.values k vs is (inr h);
+    rows_out = λ k r is h. bare.rows_out k r is (inr h);
+    rows_in =
+        λ k r is h. bare.rows_in k r is (inr h);
+  }
 
-  pub elements_lead : (xs : List IdBytes) → AllLive m xs → Ordered meta m good known xs → Bare attr row xs → fold meta (stripped m attr row []) (gone_made m xs) ≡ Some (stripped m attr row xs)
+  pub elements_lead : (xs : List IdBytes) → AllLive m xs → Ordered meta m good known xs → Bare attr row xs
+      → fold meta (stripped m attr row []) (gone_made m xs) ≡ Some (stripped m attr row xs)
   elements_lead [] live order bare = refl
   elements_lead (x ∷ xs) live order bare =
       let before : State = stripped m attr row xs in
       let next : State = record { kind = set before.kind x None; place = set before.place x None; prank = set before.prank x None; attr = attr; row = row } in
-      let same_state : next ≡ stripped m attr row (x ∷ xs) = λ i. record { kind = one_more m.kind x xs i; place = one_more m.place x xs i; prank = one_more m.prank x xs i; attr = attr; row = row } in
+      let same_state : next ≡ stripped m attr row (x ∷ xs) =
+      λ i. record { kind = one_more m.kind x xs i; place = one_more m.place x xs i; prank = one_more m.prank x xs i; attr = attr; row = row } in
       fold_append meta (stripped m attr row []) before (gone_made m xs) (gone_step m x ∷ []) (elements_lead xs live.1 order.2 (less_bare x xs bare))
       ∙ fold_more meta before (gone_step m x) [] (gone_can x xs live.0 order.1 order.0 bare)
       ∙ ap Some same_state

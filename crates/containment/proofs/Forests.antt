@@ -29,9 +29,13 @@ forest_one meta m (r ∷ rs) (x ∷ xs) (y ∷ ys) g h =
     λ i. head i ∷ rest i
 
 -- one forest after another
-pub forest_joins : (meta : Meta) (m : State) (rs ss xs ys : List IdBytes) → IsForest meta m rs xs → IsForest meta m ss ys → IsForest meta m (rs ++ ss) (xs ++ ys)
+pub forest_joins : (meta : Meta) (m : State) (rs ss xs ys : List IdBytes) → IsForest meta m rs xs → IsForest meta m ss ys
+    → IsForest meta m (rs ++ ss) (xs ++ ys)
 forest_joins meta m [] ss [] ys g h = h
 forest_joins meta m [] ss (x ∷ xs) ys g h = absurd g
 forest_joins meta m (r ∷ rs) ss [] ys g h = absurd g
-forest_joins meta m (r ∷ rs) ss (x ∷ xs) ys g h =
-    (g.0, subst (λ l. IsForest meta m l (xs ++ ys)) (append_assoc (children_of meta m r) rs ss) (forest_joins meta m (children_of meta m r ++ rs) ss xs ys g.1 h))
+forest_joins meta m (r ∷ rs) ss (x ∷ xs) ys g h = (
+  g.0,
+  subst (λ l. IsForest meta m l (xs ++ ys)) (append_assoc (children_of meta m r) rs ss)
+      (forest_joins meta m (children_of meta m r ++ rs) ss xs ys g.1 h),
+)

@@ -76,7 +76,9 @@ module _ (meta : Meta) (sound : Sound meta) (row : Rows) (slots : List AttrKey) 
   swept (e ∷ es) now = cond (wanted e) (swept es (set now e.0 None)) (swept es now)
 
   abbrev made_of : List (RowKey × ℕ) → List Step
-  made_of es = map (incoming_unlink meta row x) (filter (λ (i : Incoming). not (is_touched meta slots (i.source, i.feature, x))) (map row_incoming (filter (λ (e : RowKey × ℕ). text_eq x e.0.2) es)))
+  made_of es = map (incoming_unlink meta row x)
+      (filter (λ (i : Incoming). not (is_touched meta slots (i.source, i.feature, x)))
+      (map row_incoming (filter (λ (e : RowKey × ℕ). text_eq x e.0.2) es)))
 
   -- an entry that is wanted makes a step, and no other does
   abbrev step_of : RowKey × ℕ → Step
@@ -84,15 +86,30 @@ module _ (meta : Meta) (sound : Sound meta) (row : Rows) (slots : List AttrKey) 
 
   made_more : (e : RowKey × ℕ) (es : List (RowKey × ℕ)) → made_of (e ∷ es) ≡ cond (wanted e) (step_of e ∷ made_of es) (made_of es)
   made_more e es =
-      elim (text_eq x e.0.2) as (λ b. text_eq x e.0.2 ≡ b → map (incoming_unlink meta row x) (filter (λ (i : Incoming). not (is_touched meta slots (i.source, i.feature, x))) (map row_incoming (cond {A = List (RowKey × ℕ)} b (e ∷ filter (λ (e : RowKey × ℕ). text_eq x e.0.2) es) (filter (λ (e : RowKey × ℕ). text_eq x e.0.2) es)))) ≡ cond (b && not (is_touched meta slots e.0)) (step_of e ∷ made_of es) (made_of es)) [
+      elim (text_eq x e.0.2) as (λ b. text_eq x e.0.2 ≡ b
+      → map (incoming_unlink meta row x)
+      (filter (λ (i : Incoming). not (is_touched meta slots (i.source, i.feature, x)))
+      (map row_incoming (cond {A = List (RowKey × ℕ)} b (e ∷ filter (λ (e : RowKey × ℕ). text_eq x e.0.2) es)
+      (filter (λ (e : RowKey × ℕ). text_eq x e.0.2) es)))) ≡ cond (b && not (is_touched meta slots e.0)) (step_of e ∷ made_of es) (made_of es)) [
         | false ↦ λ _. refl
         | true ↦ λ is.
-            let key : is_touched meta slots (e.0.0, e.0.1, x) ≡ is_touched meta slots e.0 = ap (λ (z : IdBytes). is_touched meta slots (e.0.0, e.0.1, z)) (text_equality.exact x e.0.2 is) in
-            ap (λ t. map (incoming_unlink meta row x) (cond {A = List Incoming} (not t) (row_incoming e ∷ filter (λ (i : Incoming). not (is_touched meta slots (i.source, i.feature, x))) (map row_incoming (filter (λ (e : RowKey × ℕ). text_eq x e.0.2) es))) (filter (λ (i : Incoming). not (is_touched meta slots (i.source, i.feature, x))) (map row_incoming (filter (λ (e : RowKey × ℕ). text_eq x e.0.2) es))))) key
+            let key : is_touched meta slots (e.0.0, e.0.1, x) ≡ is_touched meta slots e.0 =
+            ap (λ (z : IdBytes). is_touched meta slots (e.0.0, e.0.1, z)) (text_equality.exact x e.0.2 is) in
+            ap (λ t. map (incoming_unlink meta row x)
+            (cond {A = List Incoming} (not t)
+            (row_incoming e ∷ filter (λ (i : Incoming). not (is_touched meta slots (i.source, i.feature, x)))
+            (map row_incoming (filter (λ (e : RowKey × ℕ). text_eq x e.0.2) es)))
+            (filter (λ (i : Incoming). not (is_touched meta slots (i.source, i.feature, x)))
+            (map row_incoming (filter (λ (e : RowKey × ℕ). text_eq x e.0.2) es))))) key
             ∙ taken (is_touched meta slots e.0)
       ] refl
     where
-      taken : (t : Bool) → map (incoming_unlink meta row x) (cond {A = List Incoming} (not t) (row_incoming e ∷ filter (λ (i : Incoming). not (is_touched meta slots (i.source, i.feature, x))) (map row_incoming (filter (λ (e : RowKey × ℕ). text_eq x e.0.2) es))) (filter (λ (i : Incoming). not (is_touched meta slots (i.source, i.feature, x))) (map row_incoming (filter (λ (e : RowKey × ℕ). text_eq x e.0.2) es)))) ≡ cond (not t) (step_of e ∷ made_of es) (made_of es)
+      taken : (t : Bool) → map (incoming_unlink meta row x)
+          (cond {A = List Incoming} (not t)
+          (row_incoming e ∷ filter (λ (i : Incoming). not (is_touched meta slots (i.source, i.feature, x)))
+          (map row_incoming (filter (λ (e : RowKey × ℕ). text_eq x e.0.2) es)))
+          (filter (λ (i : Incoming). not (is_touched meta slots (i.source, i.feature, x)))
+          (map row_incoming (filter (λ (e : RowKey × ℕ). text_eq x e.0.2) es)))) ≡ cond (not t) (step_of e ∷ made_of es) (made_of es)
       taken true = refl
       taken false = refl
 
@@ -103,23 +120,28 @@ module _ (meta : Meta) (sound : Sound meta) (row : Rows) (slots : List AttrKey) 
 
   ready_still : (now : Rows) (k : RowKey) (es : List (RowKey × ℕ)) → Behind k es → Ready now es → Ready (set now k None) es
   ready_still now k [] far ready = tt
-  ready_still now k (e ∷ es) far ready = (λ is. let was = ready.0 is in (get-set_other row_order now k None e.0 far.0 ∙ was.0, was.1), ready_still now k es far.1 ready.1)
+  ready_still now k (e ∷ es) far ready =
+      (λ is. let was = ready.0 is in (get-set_other row_order now k None e.0 far.0 ∙ was.0, was.1), ready_still now k es far.1 ready.1)
 
-  one_takes : (m : State) → Good meta m → (e : RowKey × ℕ) → wanted e ≡ true → get m.row e.0 ≡ Some e.1 → opposite_of meta e.0.1 ≡ None → Takes meta m (step_of e) (set m.row e.0 None)
+  one_takes : (m : State) → Good meta m → (e : RowKey × ℕ) → wanted e ≡ true → get m.row e.0 ≡ Some e.1 → opposite_of meta e.0.1 ≡ None
+      → Takes meta m (step_of e) (set m.row e.0 None)
   one_takes m good e is here none =
       let s = e.0.0 in
       let f = e.0.1 in
       let key : x ≡ e.0.2 = text_equality.exact x e.0.2 (first_true (text_eq x e.0.2) _ is) in
       let there : get m.row (s, f, x) ≡ Some e.1 = ap (λ (z : IdBytes). get m.row (s, f, z)) key ∙ here in
       let takes = unlink_takes meta sound m good s f e.1 x there in
-      let by : (o : Option ℕ) → o ≡ None → Takes meta m (unlink_step o s f e.1 x (mirror_rank m.row o s x)) (set_pair m.row s f x o None None) → Takes meta m (unlink_step o s f e.1 x (mirror_rank row o s x)) (set m.row (s, f, x) None) = plain s f e.1 m in
+      let by : (o : Option ℕ) → o ≡ None → Takes meta m (unlink_step o s f e.1 x (mirror_rank m.row o s x)) (set_pair m.row s f x o None None)
+      → Takes meta m (unlink_step o s f e.1 x (mirror_rank row o s x)) (set m.row (s, f, x) None) = plain s f e.1 m in
       subst (λ (z : IdBytes). Takes meta m (step_of e) (set m.row (s, f, z) None)) key (by (opposite_of meta f) none takes)
     where
       first_true : (a b : Bool) → a && b ≡ true → a ≡ true
       first_true true b h = refl
       first_true false b h = h
 
-      plain : (s : IdBytes) (f r : ℕ) (m : State) (o : Option ℕ) → o ≡ None → Takes meta m (unlink_step o s f r x (mirror_rank m.row o s x)) (set_pair m.row s f x o None None) → Takes meta m (unlink_step o s f r x (mirror_rank row o s x)) (set m.row (s, f, x) None)
+      plain : (s : IdBytes) (f r : ℕ) (m : State) (o : Option ℕ) → o ≡ None
+          → Takes meta m (unlink_step o s f r x (mirror_rank m.row o s x)) (set_pair m.row s f x o None None)
+          → Takes meta m (unlink_step o s f r x (mirror_rank row o s x)) (set m.row (s, f, x) None)
       plain s f r m None is takes = takes
       plain s f r m (Some g) is takes = cc
 
@@ -127,7 +149,8 @@ module _ (meta : Meta) (sound : Sound meta) (row : Rows) (slots : List AttrKey) 
   sweep_leads [] m good keys ready = stays meta m good
   sweep_leads (e ∷ es) m good keys ready =
       subst (λ ss. Leads meta m ss (swept (e ∷ es) m.row)) (sym (made_more e es))
-      (elim (wanted e) as (λ b. wanted e ≡ b → Leads meta m (cond b (step_of e ∷ made_of es) (made_of es)) (cond b (swept es (set m.row e.0 None)) (swept es m.row))) [
+      (elim (wanted e) as (λ b. wanted e ≡ b
+      → Leads meta m (cond b (step_of e ∷ made_of es) (made_of es)) (cond b (swept es (set m.row e.0 None)) (swept es m.row))) [
         | true ↦ λ is.
             let was = ready.0 is in
             let takes = one_takes m good e is was.0 was.1 in
@@ -142,14 +165,17 @@ module _ (meta : Meta) (sound : Sound meta) (row : Rows) (slots : List AttrKey) 
   swept_none [] now k h = h
   swept_none (e ∷ es) now k h =
       elim (wanted e) as (λ b. get (cond b (swept es (set now e.0 None)) (swept es now)) k ≡ None) [
-        | true ↦ swept_none es (set now e.0 None) k (by_key row_order (λ q. get now q ≡ None → get (set now e.0 None) q ≡ None) e.0 k (λ _. get-set_same row_order now e.0 None) (λ apart g. get-set_other row_order now e.0 None k apart ∙ g) h)
+        | true ↦ swept_none es (set now e.0 None) k
+            (by_key row_order (λ q. get now q ≡ None → get (set now e.0 None) q ≡ None) e.0 k (λ _. get-set_same row_order now e.0 None)
+            (λ apart g. get-set_other row_order now e.0 None k apart ∙ g) h)
         | false ↦ swept_none es now k h
       ]
 
   swept_gone : (es : List (RowKey × ℕ)) (now : Rows) (k : RowKey) (r : ℕ) → find row_cmp k es ≡ Some r → wanted (k, r) ≡ true → get (swept es now) k ≡ None
   swept_gone [] now k r h is = cc
   swept_gone (e ∷ es) now k r h is =
-      elim (eq_by_cmp row_cmp k e.0) as (λ b. eq_by_cmp row_cmp k e.0 ≡ b → cond b (Some e.1) (find row_cmp k es) ≡ Some r → get (swept (e ∷ es) now) k ≡ None) [
+      elim (eq_by_cmp row_cmp k e.0) as (λ b. eq_by_cmp row_cmp k e.0 ≡ b → cond b (Some e.1) (find row_cmp k es) ≡ Some r
+      → get (swept (e ∷ es) now) k ≡ None) [
         | true ↦ λ tied _.
             let key = same_key row_order k e.0 tied in
             let same_test : wanted e ≡ true = ap (λ (q : RowKey). text_eq x q.2 && not (is_touched meta slots q)) (sym key) ∙ is in
@@ -181,10 +207,12 @@ is_gone meta slots done k = is_touched meta slots k || is_among done k.2
 
 -- a row to one of the elements that isn't touched has no opposite
 abbrev pub NoOpposites : Meta → Rows → List AttrKey → List IdBytes → Type 0
-NoOpposites meta row slots xs = (s : IdBytes) (f : ℕ) (x : IdBytes) (r : ℕ) → is_among xs x ≡ true → get row (s, f, x) ≡ Some r → is_touched meta slots (s, f, x) ≡ false → opposite_of meta f ≡ None
+NoOpposites meta row slots xs = (s : IdBytes) (f : ℕ) (x : IdBytes) (r : ℕ) → is_among xs x ≡ true → get row (s, f, x) ≡ Some r
+    → is_touched meta slots (s, f, x) ≡ false → opposite_of meta f ≡ None
 
 module _ (meta : Meta) (sound : Sound meta) (row : Rows) (slots : List AttrKey) (xs : List IdBytes) (alone : NoOpposites meta row slots xs) where
-  module _ (m : State) (good : Good meta m) (done : List IdBytes) (same_row : m.row ≡ without (is_gone meta slots done) row) (x : IdBytes) (fresh : is_among done x ≡ false) (one : is_among xs x ≡ true) where
+  module _ (m : State) (good : Good meta m) (done : List IdBytes) (same_row : m.row ≡ without (is_gone meta slots done) row) (x : IdBytes)
+      (fresh : is_among done x ≡ false) (one : is_among xs x ≡ true) where
     read : (k : RowKey) → get m.row k ≡ cond (is_gone meta slots done k) None (get row k)
     read k = ap (λ w. get w k) same_row ∙ get-without row_order (is_gone meta slots done) row k
 
@@ -206,14 +234,17 @@ module _ (meta : Meta) (sound : Sound meta) (row : Rows) (slots : List AttrKey) 
 
     swept_is : swept meta sound row slots x (entries row) m.row ≡ without (is_gone meta slots (x ∷ done)) row
     swept_is = same row_order _ _ (λ k.
-        elim (text_eq x k.2) as (λ b. text_eq x k.2 ≡ b → get (swept meta sound row slots x (entries row) m.row) k ≡ get (without (is_gone meta slots (x ∷ done)) row) k) [
+        elim (text_eq x k.2) as (λ b. text_eq x k.2 ≡ b
+        → get (swept meta sound row slots x (entries row) m.row) k ≡ get (without (is_gone meta slots (x ∷ done)) row) k) [
           | true ↦ λ is.
-              let there : is_gone meta slots (x ∷ done) k ≡ true = ap (λ b. is_touched meta slots k || (b || is_among done k.2)) (turned x k.2 is) ∙ or_true (is_touched meta slots k) in
+              let there : is_gone meta slots (x ∷ done) k ≡ true =
+              ap (λ b. is_touched meta slots k || (b || is_among done k.2)) (turned x k.2 is) ∙ or_true (is_touched meta slots k) in
               here k is (get m.row k) refl
               ∙ sym (get-without row_order (is_gone meta slots (x ∷ done)) row k ∙ ap (λ b. cond b None (get row k)) there)
           | false ↦ λ far.
               swept_other meta sound row slots x (entries row) m.row k far ∙ read k
-              ∙ sym (get-without row_order (is_gone meta slots (x ∷ done)) row k ∙ ap (λ b. cond (is_touched meta slots k || (b || is_among done k.2)) None (get row k)) (apart text_eq text_equality x k.2 far))
+              ∙ sym (get-without row_order (is_gone meta slots (x ∷ done)) row k
+              ∙ ap (λ b. cond (is_touched meta slots k || (b || is_among done k.2)) None (get row k)) (apart text_eq text_equality x k.2 far))
         ] refl)
       where
         or_true : (b : Bool) → b || true ≡ true
@@ -227,11 +258,14 @@ module _ (meta : Meta) (sound : Sound meta) (row : Rows) (slots : List AttrKey) 
         here k is None none = swept_none meta sound row slots x (entries row) m.row k none
         here k is (Some r) some =
             let at = still_there (is_gone meta slots done k) (get row k) r (sym (read k) ∙ some) in
-            let test : wanted meta sound row slots x (k, r) ≡ true = ap (λ b. b && not (is_touched meta slots k)) is ∙ not_false (is_touched meta slots k) (or_first (is_touched meta slots k) _ at.0) in
+            let test : wanted meta sound row slots x (k, r) ≡ true =
+            ap (λ b. b && not (is_touched meta slots k)) is ∙ not_false (is_touched meta slots k) (or_first (is_touched meta slots k) _ at.0) in
             swept_gone meta sound row slots x (entries row) m.row k r (sym (get-entries row k) ∙ at.1) test
 
     pub one_leads : Leads meta m (map (incoming_unlink meta row x) (incoming_left meta row slots x)) (without (is_gone meta slots (x ∷ done)) row)
-    one_leads = subst (λ w. Leads meta m (map (incoming_unlink meta row x) (incoming_left meta row slots x)) w) swept_is (sweep_leads meta sound row slots x (entries row) m good (keyed (entries row) (entries_sorted row)) (ready (entries row) (entries_held row_order row)))
+    one_leads = subst (λ w. Leads meta m (map (incoming_unlink meta row x) (incoming_left meta row slots x)) w) swept_is
+        (sweep_leads meta sound row slots x (entries row) m good (keyed (entries row) (entries_sorted row))
+        (ready (entries row) (entries_held row_order row)))
 
 -- the elements after others, the last first
 abbrev pub gathered : List IdBytes → List IdBytes → List IdBytes
@@ -244,7 +278,8 @@ module _ (meta : Meta) (sound : Sound meta) (row : Rows) (slots : List AttrKey) 
   Fresh done [] = Unit {0}
   Fresh done (y ∷ ys) = (is_among done y ≡ false) × (is_among xs y ≡ true) × Fresh (y ∷ done) ys
 
-  pub incoming_leads : (ys done : List IdBytes) (m : State) → Good meta m → m.row ≡ without (is_gone meta slots done) row → Fresh done ys → Leads meta m (incoming_made meta row slots ys) (without (is_gone meta slots (gathered ys done)) row)
+  pub incoming_leads : (ys done : List IdBytes) (m : State) → Good meta m → m.row ≡ without (is_gone meta slots done) row → Fresh done ys
+      → Leads meta m (incoming_made meta row slots ys) (without (is_gone meta slots (gathered ys done)) row)
   incoming_leads [] done m good is fresh = subst (λ w. Leads meta m [] w) is (stays meta m good)
   incoming_leads (y ∷ ys) done m good is fresh =
       let next = without (is_gone meta slots (y ∷ done)) row in

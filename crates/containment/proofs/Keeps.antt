@@ -41,7 +41,8 @@ and_cut : (b c : Bool) → b && (b && c) ≡ b && c
 and_cut true c = refl
 and_cut false c = refl
 
-no_place : (meta : Meta) (kind : FinMap id_cmp ℕ) (c : Option ℕ) (p : Option Place) (r : Option ℕ) → c ≡ None → PlaceOk meta kind c p r → (p ≡ None) × (r ≡ None)
+no_place : (meta : Meta) (kind : FinMap id_cmp ℕ) (c : Option ℕ) (p : Option Place) (r : Option ℕ) → c ≡ None → PlaceOk meta kind c p r
+    → (p ≡ None) × (r ≡ None)
 no_place meta kind None None None dead ok = (refl, refl)
 no_place meta kind None None (Some r) dead ok = absurd ok
 no_place meta kind None (Some p) None dead ok = absurd ok
@@ -74,7 +75,8 @@ module _ (meta : Meta) (m : State) (good : Good meta m) (e : IdBytes) where
       let at = live_place meta m good y live in
       let up = good.places.ends y at.0 at.1 in
       let here : at.0 ≡ place_of m y = sym (ap (λ o. unwrap_or o Root) at.1) in
-      let above : containers_of m (place_of m y) ≡ up.0 = containers_are_chain meta m good (place_of m y) up.0 (subst (λ p. IsChain m.place (Some p) up.0) here up.1) in
+      let above : containers_of m (place_of m y) ≡ up.0 =
+      containers_are_chain meta m good (place_of m y) up.0 (subst (λ p. IsChain m.place (Some p) up.0) here up.1) in
       subtree_is_below meta m good e y up.0 (subst (λ o. IsChain m.place o up.0) (sym at.1) up.1) ∙ ap (λ xs. is_among (y ∷ xs) e) (sym above)
 
   -- what a live element has stays where it isn't deleted, and an element that isn't live has nothing
@@ -85,7 +87,8 @@ module _ (meta : Meta) (m : State) (good : Good meta m) (e : IdBytes) where
         | false ↦ λ no. none_either (gone y) o (dead (no_some (get m.kind y) no))
       ] refl
 
-  kept_pair : (y z : IdBytes) (o : Option ℕ) → (get m.kind y ≡ None → o ≡ None) → (get m.kind z ≡ None → o ≡ None) → cond (gone y || gone z) None o ≡ cond (stays m e y && stays m e z) o None
+  kept_pair : (y z : IdBytes) (o : Option ℕ) → (get m.kind y ≡ None → o ≡ None) → (get m.kind z ≡ None → o ≡ None)
+      → cond (gone y || gone z) None o ≡ cond (stays m e y && stays m e z) o None
   kept_pair y z o from to =
       either (gone y) (gone z) o ∙ ap (λ w. cond (gone y) None w) (kept z o to)
       ∙ kept y (cond (stays m e z) o None) (λ dead. cut (stays m e z) o (from dead)) ∙ both (stays m e y) (stays m e z) o
@@ -107,14 +110,20 @@ module _ (meta : Meta) (m : State) (good : Good meta m) (e : IdBytes) where
 
   pub keeps : Keeps m (delete_after meta m e) e
   keeps = record {
-    live = λ y. ap is_some (class_kept y) ∙ live_either (stays m e y) (get m.kind y) ∙ and_cut (is_live m y) (not (is_among (y ∷ containers_of m (place_of m y)) e));
+    live = λ y. ap is_some (class_kept y) ∙ live_either (stays m e y) (get m.kind y)
+        ∙ and_cut (is_live m y) (not (is_among (y ∷ containers_of m (place_of m y)) e));
     class = class_kept;
-    place = λ y. get-without id_order gone m.place y ∙ kept y (get m.place y) (λ dead. (no_place meta m.kind (get m.kind y) (get m.place y) (get m.prank y) dead (good.places.stands y)).0);
-    rank = λ y. get-without id_order gone m.prank y ∙ kept y (get m.prank y) (λ dead. (no_place meta m.kind (get m.kind y) (get m.place y) (get m.prank y) dead (good.places.stands y)).1);
-    values = λ y f. get-without attr_order (λ (k : AttrKey). gone k.0) m.attr (y, f) ∙ kept y (get m.attr (y, f)) (λ dead. no_values meta (get m.kind y) f (get m.attr (y, f)) dead (good.attrs.typed y f));
+    place = λ y. get-without id_order gone m.place y
+        ∙ kept y (get m.place y) (λ dead. (no_place meta m.kind (get m.kind y) (get m.place y) (get m.prank y) dead (good.places.stands y)).0);
+    rank = λ y. get-without id_order gone m.prank y
+        ∙ kept y (get m.prank y) (λ dead. (no_place meta m.kind (get m.kind y) (get m.place y) (get m.prank y) dead (good.places.stands y)).1);
+    values = λ y f. get-without attr_order (λ (k : AttrKey). gone k.0) m.attr (y, f)
+        ∙ kept y (get m.attr (y, f)) (λ dead. no_values meta (get m.kind y) f (get m.attr (y, f)) dead (good.attrs.typed y f));
     reference = λ y f z.
         get-without row_order (λ (k : RowKey). gone k.0 || gone k.2) m.row (y, f, z)
-        ∙ kept_pair y z (get m.row (y, f, z)) (λ dead. no_source meta (get m.kind y) f (get m.kind z) (get m.row (y, f, z)) dead (good.rows.typed y f z)) (λ dead. no_target meta (get m.kind y) f (get m.kind z) (get m.row (y, f, z)) dead (good.rows.typed y f z));
+        ∙ kept_pair y z (get m.row (y, f, z))
+        (λ dead. no_source meta (get m.kind y) f (get m.kind z) (get m.row (y, f, z)) dead (good.rows.typed y f z))
+        (λ dead. no_target meta (get m.kind y) f (get m.kind z) (get m.row (y, f, z)) dead (good.rows.typed y f z));
   }
 
 pub delete_keeps : DeleteKeeps

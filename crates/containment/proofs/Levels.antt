@@ -26,13 +26,15 @@ counted : (e : IdBytes) (o : Option ℕ) → is_some o ≡ true → counts (λ _
 counted e None h = cc
 counted e (Some v) h = refl
 
-pub keys_fit : (kind : FinMap id_cmp ℕ) (xs : List IdBytes) → Distinct xs → ((x : IdBytes) → In x xs → is_some (get kind x) ≡ true) → length xs ≤ count (λ _. true) kind
+pub keys_fit : (kind : FinMap id_cmp ℕ) (xs : List IdBytes) → Distinct xs → ((x : IdBytes) → In x xs → is_some (get kind x) ≡ true)
+    → length xs ≤ count (λ _. true) kind
 keys_fit kind [] d there = omega arith
 keys_fit kind (x ∷ xs) d there =
     let left = set kind x None in
     let sum : count (λ _. true) left + counts (λ _. true) x (get kind x) ≡ count (λ _. true) kind + 0 = count-set id_order (λ _. true) kind x None in
     let one = counted x (get kind x) (there x (inl refl)) in
-    let rest : length xs ≤ count (λ _. true) left = keys_fit left xs d.1 (λ y is. ap is_some (get-set_other id_order kind x None y (other y is)) ∙ there y (inr is)) in
+    let rest : length xs ≤ count (λ _. true) left =
+    keys_fit left xs d.1 (λ y is. ap is_some (get-set_other id_order kind x None y (other y is)) ∙ there y (inr is)) in
     more (length xs) (count (λ _. true) left) (counts (λ _. true) x (get kind x)) (count (λ _. true) kind) rest one sum
   where
     other : (y : IdBytes) → In y xs → eq_by_cmp id_cmp y x ≡ false
@@ -79,13 +81,16 @@ module _ (meta : Meta) (m : State) (good : Good meta m) where
 
   path_live : (n : ℕ) (y e : IdBytes) (up : Up m.place n y e) (z : IdBytes) → In z (path n y e up) → is_live m z ≡ true
   path_live zero y e up z h = absurd h
-  path_live (suc n) y e up z (inl h) = ap (is_live m) h ∙ (placed_live meta m.kind (get m.kind y) (Inside up.0 up.1) (get m.prank y) (subst (λ o. PlaceOk meta m.kind (get m.kind y) o (get m.prank y)) up.2 (good.places.stands y))).0
+  path_live (suc n) y e up z (inl h) =
+      ap (is_live m) h ∙ (placed_live meta m.kind (get m.kind y) (Inside up.0 up.1) (get m.prank y)
+      (subst (λ o. PlaceOk meta m.kind (get m.kind y) o (get m.prank y)) up.2 (good.places.stands y))).0
   path_live (suc n) y e up z (inr h) = path_live n up.0 e up.3 z h
 
   -- nothing stands deeper below an element than there are live elements
   pub bounded : (e : IdBytes) (n : ℕ) (y : IdBytes) → Up m.place n y e → n < suc (length (ids m))
   bounded e n y up =
-      less n (length (path n y e up)) (count (λ _. true) m.kind) (length (ids m)) (path_long n y e up) (keys_fit m.kind (path n y e up) (path_distinct n y e up) (path_live n y e up)) (many_ids m)
+      less n (length (path n y e up)) (count (λ _. true) m.kind) (length (ids m)) (path_long n y e up)
+      (keys_fit m.kind (path n y e up) (path_distinct n y e up) (path_live n y e up)) (many_ids m)
     where
       less : (n p c k : ℕ) → p ≡ n → p ≤ c → c ≡ k → n < suc k
       less n p c k h g e = omega arith
@@ -96,8 +101,13 @@ module _ (meta : Meta) (m : State) (good : Good meta m) where
     each_forest h [] all = tt
     each_forest h (c ∷ cs) all = forest_joins meta m (c ∷ []) cs (h c) (each h cs) (all c (inl refl)) (each_forest h cs (λ d is. all d (inr is)))
 
-    pub one_forest : (h : IdBytes → List IdBytes) (e : IdBytes) → ((c : IdBytes) → In c (children_of meta m e) → IsSubtree meta m c (h c)) → IsSubtree meta m e (e ∷ each h (children_of meta m e))
-    one_forest h e all = (refl, subst (λ l. IsForest meta m l (each h (children_of meta m e))) (sym (append-nil (children_of meta m e))) (each_forest h (children_of meta m e) all))
+    pub one_forest : (h : IdBytes → List IdBytes) (e : IdBytes) → ((c : IdBytes) → In c (children_of meta m e) → IsSubtree meta m c (h c))
+        → IsSubtree meta m e (e ∷ each h (children_of meta m e))
+    one_forest h e all = (
+      refl,
+      subst (λ l. IsForest meta m l (each h (children_of meta m e))) (sym (append-nil (children_of meta m e)))
+          (each_forest h (children_of meta m e) all),
+    )
 
     levels_forest : (n : ℕ) (e : IdBytes) → ((k : ℕ) (y : IdBytes) → Up m.place k y e → k < n) → IsSubtree meta m e (levels meta m n e)
     levels_forest zero e deep = absurd (none (deep 0 e refl))
@@ -115,4 +125,5 @@ module _ (meta : Meta) (m : State) (good : Good meta m) where
     subtree_is e = levels_forest (suc (length (ids m))) e (bounded e)
 
     pub in_order : (e : IdBytes) → subtree_of meta m e ≡ e ∷ each (subtree_of meta m) (children_of meta m e)
-    in_order e = forest_one meta m (e ∷ []) (subtree_of meta m e) (e ∷ each (subtree_of meta m) (children_of meta m e)) (subtree_is e) (one_forest (subtree_of meta m) e (λ c is. subtree_is c))
+    in_order e = forest_one meta m (e ∷ []) (subtree_of meta m e) (e ∷ each (subtree_of meta m) (children_of meta m e)) (subtree_is e)
+        (one_forest (subtree_of meta m) e (λ c is. subtree_is c))

@@ -1,5 +1,6 @@
 -- Items of lists, and lists that have each item once.
-use Rattle.std.proofs.Common.{◌≡◌, ℕ, ◌<◌, suc, zero, Bool, true, false, cond, List, [], ◌∷◌, ◌++◌, refl, sym, ap, subst, ◌∙◌, ◌||◌, arith, map, length, inl, inr}
+use Rattle.std.proofs.Common.{◌≡◌, ℕ, ◌<◌, suc, zero, Bool, true, false, cond, List, [], ◌∷◌, ◌++◌, refl, sym, ap, subst, ◌∙◌, ◌||◌, arith, map}
+use Rattle.std.proofs.Common.{length, inl, inr}
 use Rattle.std.specs.Prelude.{slice_get, ◌⊎◌}
 use Rattle.std.specs.List.{filter}
 use Rattle.std.specs.Option.{option_map_or}
@@ -79,7 +80,8 @@ module _ {A : Type 0} where
 -- ---- numbers
 in_numbers : (k n : ℕ) → In k (numbers n) → k < n
 in_numbers k zero h = absurd h
-in_numbers k (suc n) h = elim (in_either k (numbers n) (n ∷ []) h) [ inl l ↦ later k n (in_numbers k n l) | inr r ↦ elim r [ inl e ↦ here k n e | inr none ↦ absurd none ] ]
+in_numbers k (suc n) h =
+    elim (in_either k (numbers n) (n ∷ []) h) [ inl l ↦ later k n (in_numbers k n l) | inr r ↦ elim r [ inl e ↦ here k n e | inr none ↦ absurd none ] ]
   where
     later : (k n : ℕ) → k < n → k < suc n
     later k n h = omega arith
@@ -89,7 +91,9 @@ in_numbers k (suc n) h = elim (in_either k (numbers n) (n ∷ []) h) [ inl l ↦
 
 pub numbers_distinct : (n : ℕ) → Distinct (numbers n)
 numbers_distinct zero = tt
-numbers_distinct (suc n) = distinct_join (numbers n) (n ∷ []) (numbers_distinct n) (λ h. h, tt) (λ x l r. elim r [ inl e ↦ itself n (subst (λ k. k < n) e (in_numbers x n l)) | inr none ↦ none ])
+numbers_distinct (suc n) =
+    distinct_join (numbers n) (n ∷ []) (numbers_distinct n) (λ h. h, tt)
+    (λ x l r. elim r [ inl e ↦ itself n (subst (λ k. k < n) e (in_numbers x n l)) | inr none ↦ none ])
   where
     itself : (n : ℕ) → n < n → ⊥
     itself n h = omega arith
@@ -106,7 +110,8 @@ numbers_have k (suc n) h =
     less_or (suc k) (suc n) h = elim (less_or k n (omega (arith, h))) [ inl less ↦ inl (omega (arith, less)) | inr e ↦ inr (ap suc e) ]
 
 -- a place of a list where what is read passes, and nothing doesn't
-pub within_list : {A B : Type 0} (h : A → B) (d : B) (p : B → Bool) (xs : List A) (k : ℕ) → p d ≡ false → p (option_map_or h (slice_get xs k) d) ≡ true → k < length xs
+pub within_list : {A B : Type 0} (h : A → B) (d : B) (p : B → Bool) (xs : List A) (k : ℕ) → p d ≡ false
+    → p (option_map_or h (slice_get xs k) d) ≡ true → k < length xs
 within_list h d p [] k none pass = absurd (true_false (p d) pass none)
 within_list h d p (x ∷ xs) zero none pass = first (length xs)
   where

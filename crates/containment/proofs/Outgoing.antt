@@ -25,10 +25,12 @@ use Rattle.edit_laws.proofs.Joins.{leads_on}
 use Rattle.edit_laws.proofs.Lists.{Apart, targets_held, targets_has, targets_apart}
 use Rattle.containment.specs.Deletes.{is_touched, targets_left, outgoing_made}
 
-none_any : (y : IdBytes) (q : Entry → Bool) (xs : List Entry) → list_any (λ (x : Entry). text_eq y x.id) xs ≡ false → list_any (λ (x : Entry). text_eq y x.id) (filter q xs) ≡ false
+none_any : (y : IdBytes) (q : Entry → Bool) (xs : List Entry) → list_any (λ (x : Entry). text_eq y x.id) xs ≡ false
+    → list_any (λ (x : Entry). text_eq y x.id) (filter q xs) ≡ false
 none_any y q [] h = refl
 none_any y q (x ∷ xs) h =
-    elim (text_eq y x.id) as (λ t. text_eq y x.id ≡ t → t || list_any (λ (x : Entry). text_eq y x.id) xs ≡ false → list_any (λ (x : Entry). text_eq y x.id) (filter q (x ∷ xs)) ≡ false) [
+    elim (text_eq y x.id) as (λ t. text_eq y x.id ≡ t → t || list_any (λ (x : Entry). text_eq y x.id) xs ≡ false
+    → list_any (λ (x : Entry). text_eq y x.id) (filter q (x ∷ xs)) ≡ false) [
       | true ↦ λ _ g. cc
       | false ↦ λ is g.
           elim (q x) as (λ b. list_any (λ (x : Entry). text_eq y x.id) (cond b (x ∷ filter q xs) (filter q xs)) ≡ false) [
@@ -37,15 +39,19 @@ none_any y q (x ∷ xs) h =
           ]
     ] refl h
 
-some_any : (y : IdBytes) (q : IdBytes → Bool) (xs : List Entry) → q y ≡ true → list_any (λ (x : Entry). text_eq y x.id) xs ≡ true → list_any (λ (x : Entry). text_eq y x.id) (filter (λ (x : Entry). q x.id) xs) ≡ true
+some_any : (y : IdBytes) (q : IdBytes → Bool) (xs : List Entry) → q y ≡ true → list_any (λ (x : Entry). text_eq y x.id) xs ≡ true
+    → list_any (λ (x : Entry). text_eq y x.id) (filter (λ (x : Entry). q x.id) xs) ≡ true
 some_any y q [] pass h = h
 some_any y q (x ∷ xs) pass h =
-    elim (text_eq y x.id) as (λ t. text_eq y x.id ≡ t → t || list_any (λ (x : Entry). text_eq y x.id) xs ≡ true → list_any (λ (x : Entry). text_eq y x.id) (filter (λ (x : Entry). q x.id) (x ∷ xs)) ≡ true) [
+    elim (text_eq y x.id) as (λ t. text_eq y x.id ≡ t → t || list_any (λ (x : Entry). text_eq y x.id) xs ≡ true
+    → list_any (λ (x : Entry). text_eq y x.id) (filter (λ (x : Entry). q x.id) (x ∷ xs)) ≡ true) [
       | true ↦ λ is _.
-          ap (λ b. list_any (λ (x : Entry). text_eq y x.id) (cond b (x ∷ filter (λ (x : Entry). q x.id) xs) (filter (λ (x : Entry). q x.id) xs))) (ap q (sym (text_equality.exact y x.id is)) ∙ pass)
+          ap (λ b. list_any (λ (x : Entry). text_eq y x.id) (cond b (x ∷ filter (λ (x : Entry). q x.id) xs) (filter (λ (x : Entry). q x.id) xs)))
+          (ap q (sym (text_equality.exact y x.id is)) ∙ pass)
           ∙ ap (λ b. b || list_any (λ (x : Entry). text_eq y x.id) (filter (λ (x : Entry). q x.id) xs)) is
       | false ↦ λ _ g.
-          elim (q x.id) as (λ b. list_any (λ (x : Entry). text_eq y x.id) (cond b (x ∷ filter (λ (x : Entry). q x.id) xs) (filter (λ (x : Entry). q x.id) xs)) ≡ true) [
+          elim (q x.id) as (λ b.
+          list_any (λ (x : Entry). text_eq y x.id) (cond b (x ∷ filter (λ (x : Entry). q x.id) xs) (filter (λ (x : Entry). q x.id) xs)) ≡ true) [
             | true ↦ ap (λ b. text_eq y x.id || b) (some_any y q xs pass g) ∙ or_true (text_eq y x.id)
             | false ↦ some_any y q xs pass g
           ]
@@ -68,7 +74,8 @@ module _ (meta : Meta) (sound : Sound meta) (row : Rows) (before : List AttrKey)
   read k = get-without row_order (is_touched meta before) row k
 
   module _ (m : State) (good : Good meta m) (same_row : m.row ≡ left) (a : IdBytes) (f : ℕ) where
-    mirror_left : (o : Option ℕ) → opposite_of meta f ≡ o → (x : IdBytes) (r : ℕ) → get m.row (a, f, x) ≡ Some r → mirror_rank m.row o a x ≡ mirror_rank row o a x
+    mirror_left : (o : Option ℕ) → opposite_of meta f ≡ o → (x : IdBytes) (r : ℕ) → get m.row (a, f, x) ≡ Some r
+        → mirror_rank m.row o a x ≡ mirror_rank row o a x
     mirror_left None is x r here = refl
     mirror_left (Some g) is x r here =
         let there : is_some (get m.row (x, g, a)) ≡ true = sym (good.rows.mirrored a f x g is) ∙ ap is_some here in
@@ -79,15 +86,18 @@ module _ (meta : Meta) (sound : Sound meta) (row : Rows) (before : List AttrKey)
         kept true o h = cc
         kept false o h = refl
 
-    held_left : (ts : List Entry) → AllByRecursion (λ (x : Entry). get row (a, f, x.id) ≡ Some x.rank) ts → Apart ts → Held row m.row (opposite_of meta f) a f (filter (λ (x : Entry). not (is_touched meta before (a, f, x.id))) ts)
+    held_left : (ts : List Entry) → AllByRecursion (λ (x : Entry). get row (a, f, x.id) ≡ Some x.rank) ts → Apart ts
+        → Held row m.row (opposite_of meta f) a f (filter (λ (x : Entry). not (is_touched meta before (a, f, x.id))) ts)
     held_left [] all apart = tt
     held_left (x ∷ ts) all apart =
         let rest = held_left ts all.1 apart.1 in
         let q = λ (x : Entry). not (is_touched meta before (a, f, x.id)) in
-        elim (is_touched meta before (a, f, x.id)) as (λ b. is_touched meta before (a, f, x.id) ≡ b → Held row m.row (opposite_of meta f) a f (cond {A = List Entry} (not b) (x ∷ filter q ts) (filter q ts))) [
+        elim (is_touched meta before (a, f, x.id)) as (λ b. is_touched meta before (a, f, x.id) ≡ b
+        → Held row m.row (opposite_of meta f) a f (cond {A = List Entry} (not b) (x ∷ filter q ts) (filter q ts))) [
           | true ↦ λ _. rest
           | false ↦ λ away.
-              let here : get m.row (a, f, x.id) ≡ Some x.rank = ap (λ w. get w (a, f, x.id)) same_row ∙ read (a, f, x.id) ∙ ap (λ b. cond b None (get row (a, f, x.id))) away ∙ all.0 in
+              let here : get m.row (a, f, x.id) ≡ Some x.rank =
+              ap (λ w. get w (a, f, x.id)) same_row ∙ read (a, f, x.id) ∙ ap (λ b. cond b None (get row (a, f, x.id))) away ∙ all.0 in
               (here, mirror_left (opposite_of meta f) refl x.id x.rank here, none_any x.id q ts apart.0, rest)
         ] refl
 
@@ -110,19 +120,22 @@ module _ (meta : Meta) (sound : Sound meta) (row : Rows) (before : List AttrKey)
         either false true o = refl
         either false false o = refl
 
-    pub one_lead : Leads meta m (unlinks row (opposite_of meta f) a f (targets_left meta row before (a, f))) (without (is_touched meta (before ++ (a, f) ∷ [])) row)
+    pub one_lead : Leads meta m (unlinks row (opposite_of meta f) a f (targets_left meta row before (a, f)))
+        (without (is_touched meta (before ++ (a, f) ∷ [])) row)
     one_lead =
         let ts = targets_left meta row before (a, f) in
         let run = unlinks_lead meta sound a f row ts m good (held_left (targets row a f) (targets_held row a f) (targets_apart row a f)) in
         subst (λ w. Leads meta m (unlinks row (opposite_of meta f) a f ts) w) (cleared_is meta sound a f m good ts covers_left ∙ cleared_next) run
 
 -- all features in turn
-pub outgoing_leads : (meta : Meta) → Sound meta → (row : Rows) (ss before : List AttrKey) (m : State) → Good meta m → m.row ≡ without (is_touched meta before) row → Leads meta m (outgoing_made meta row before ss) (without (is_touched meta (before ++ ss)) row)
+pub outgoing_leads : (meta : Meta) → Sound meta → (row : Rows) (ss before : List AttrKey) (m : State) → Good meta m
+    → m.row ≡ without (is_touched meta before) row → Leads meta m (outgoing_made meta row before ss) (without (is_touched meta (before ++ ss)) row)
 outgoing_leads meta sound row [] before m good is =
     subst (λ w. Leads meta m [] w) (is ∙ ap (λ (ss : List AttrKey). without (is_touched meta ss) row) (sym (append-nil before))) (stays meta m good)
 outgoing_leads meta sound row (s ∷ ss) before m good is =
     let next = without (is_touched meta (before ++ s ∷ [])) row in
-    let first : Leads meta m (unlinks row (opposite_of meta s.1) s.0 s.1 (targets_left meta row before s)) next = one_lead meta sound row before m good is s.0 s.1 in
+    let first : Leads meta m (unlinks row (opposite_of meta s.1) s.0 s.1 (targets_left meta row before s)) next =
+    one_lead meta sound row before m good is s.0 s.1 in
     let rest = outgoing_leads meta sound row ss (before ++ s ∷ []) (record m { row = next }) first.good refl in
     subst (λ (w : List AttrKey). Leads meta m (outgoing_made meta row before (s ∷ ss)) (without (is_touched meta w) row)) (append_assoc before (s ∷ []) ss)
     (leads_on meta m _ _ next _ first rest)

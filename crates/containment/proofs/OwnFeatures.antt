@@ -37,7 +37,8 @@ filter_nothing (x ∷ xs) = filter_nothing xs
 pub no_features : (meta : Meta) (p : Kind → Bool) → [] ≡ features_of meta p None
 no_features meta p = sym (filter_nothing (numbers (length meta.features)))
 
-pub features_are : (meta : Meta) → ListsDeclared meta → (c : ℕ) (p : Kind → Bool) → filter (λ f. p (kind_of meta f)) (own_features meta c) ≡ features_of meta p (Some c)
+pub features_are : (meta : Meta) → ListsDeclared meta → (c : ℕ) (p : Kind → Bool)
+    → filter (λ f. p (kind_of meta f)) (own_features meta c) ≡ features_of meta p (Some c)
 features_are meta lists c p =
     ap (filter (λ f. p (kind_of meta f))) (lists c)
     ∙ filter_twice (λ f. p (kind_of meta f)) (declared meta c) (range_with_len 0 (length meta.features))

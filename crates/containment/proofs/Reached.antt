@@ -40,7 +40,8 @@ one_more true false = refl
 one_more false true = refl
 one_more false false = refl
 
-pub slots_more : (s n : BTreeSet AttrKey) (slots : List AttrKey) (k : AttrKey) → HasSlots s slots → ((q : AttrKey) → contains attr_cmp n q ≡ cond (is_at (attr_cmp k) q) true (contains attr_cmp s q)) → HasSlots n (slots ++ k ∷ [])
+pub slots_more : (s n : BTreeSet AttrKey) (slots : List AttrKey) (k : AttrKey) → HasSlots s slots
+    → ((q : AttrKey) → contains attr_cmp n q ≡ cond (is_at (attr_cmp k) q) true (contains attr_cmp s q)) → HasSlots n (slots ++ k ∷ [])
 slots_more s n slots k has wrote q =
     wrote q ∙ ap (cond (is_at (attr_cmp k) q) true) (has q) ∙ ap (λ b. cond b true (list_any (is_slot q) slots)) (slot_at k q)
     ∙ one_more (is_slot q k) (list_any (is_slot q) slots)
@@ -63,7 +64,8 @@ module _ (meta : Meta) (sound : Sound meta) (a : IdBytes) (f : ℕ) (b : IdBytes
       let feature : g ≡ f = nat_equality.exact g f (and_first _ _ h) in
       let back : opposite_of meta f ≡ Some s.1 = subst (λ z. opposite_of meta z ≡ Some s.1) feature (sound.both s.1 g is) in
       let element : s.0 ≡ b = text_equality.exact s.0 b (and_second _ _ h) in
-      ap (λ o. ends_at b o s) back ∙ and_both (text_eq b s.0) (nat_eq s.1 s.1) (subst (λ z. text_eq z s.0 ≡ true) element (text_equality.own s.0)) (nat_equality.own s.1)
+      ap (λ o. ends_at b o s) back
+      ∙ and_both (text_eq b s.0) (nat_eq s.1 s.1) (subst (λ z. text_eq z s.0 ≡ true) element (text_equality.own s.0)) (nat_equality.own s.1)
 
   to_mirror : (s : AttrKey) (o : Option ℕ) → opposite_of meta f ≡ o → ends_at b o s ≡ true → is_mirror (opposite_of meta s.1) s.0 (a, f, b) ≡ true
   to_mirror s None is h = cc
@@ -71,7 +73,8 @@ module _ (meta : Meta) (sound : Sound meta) (a : IdBytes) (f : ℕ) (b : IdBytes
       let feature : g ≡ s.1 = nat_equality.exact g s.1 (and_second _ _ h) in
       let back : opposite_of meta s.1 ≡ Some f = subst (λ z. opposite_of meta z ≡ Some f) feature (sound.both f g is) in
       let element : b ≡ s.0 = text_equality.exact b s.0 (and_first _ _ h) in
-      ap (λ o. is_mirror o s.0 (a, f, b)) back ∙ and_both (nat_eq f f) (text_eq s.0 b) (nat_equality.own f) (subst (λ z. text_eq z b ≡ true) element (text_equality.own b))
+      ap (λ o. is_mirror o s.0 (a, f, b)) back
+      ∙ and_both (nat_eq f f) (text_eq s.0 b) (nat_equality.own f) (subst (λ z. text_eq z b ≡ true) element (text_equality.own b))
 
   mirror_is : (s : AttrKey) → is_mirror (opposite_of meta s.1) s.0 (a, f, b) ≡ ends_at b (opposite_of meta f) s
   mirror_is s = alike _ _ (to_end s (opposite_of meta s.1) refl) (to_mirror s (opposite_of meta f) refl)
@@ -80,10 +83,12 @@ module _ (meta : Meta) (sound : Sound meta) (a : IdBytes) (f : ℕ) (b : IdBytes
   own_is s = alike _ _
       (λ h. let first = text_equality.exact s.0 a (and_first _ _ h) in
       let second = nat_equality.exact s.1 f (and_second _ _ h) in
-      and_both (text_eq a s.0) (nat_eq f s.1) (subst (λ z. text_eq z s.0 ≡ true) first (text_equality.own s.0)) (subst (λ z. nat_eq z s.1 ≡ true) second (nat_equality.own s.1)))
+      and_both (text_eq a s.0) (nat_eq f s.1) (subst (λ z. text_eq z s.0 ≡ true) first (text_equality.own s.0))
+      (subst (λ z. nat_eq z s.1 ≡ true) second (nat_equality.own s.1)))
       (λ h. let first = text_equality.exact a s.0 (and_first _ _ h) in
       let second = nat_equality.exact f s.1 (and_second _ _ h) in
-      and_both (text_eq s.0 a) (nat_eq s.1 f) (subst (λ z. text_eq z a ≡ true) first (text_equality.own a)) (subst (λ z. nat_eq z f ≡ true) second (nat_equality.own f)))
+      and_both (text_eq s.0 a) (nat_eq s.1 f) (subst (λ z. text_eq z a ≡ true) first (text_equality.own a))
+      (subst (λ z. nat_eq z f ≡ true) second (nat_equality.own f)))
 
   around_is : (s : AttrKey) → is_row_or_mirror (opposite_of meta s.1) s.0 s.1 (a, f, b) ≡ is_slot (a, f) s || ends_at b (opposite_of meta f) s
   around_is s = (λ i. own_is s i || mirror_is s i)

@@ -41,7 +41,8 @@ passed (t ∷ ts) h =
     ] refl h
 
 -- it may be created
-pub may_create : (meta : Meta) (m : State) → Good meta m → (e : IdBytes) (c : ℕ) (p : Place) → is_live m e ≡ false → is_concrete meta c ≡ true → IsPlace meta m p → create_refusal meta m c p ≡ None → MayCreate meta m e c p
+pub may_create : (meta : Meta) (m : State) → Good meta m → (e : IdBytes) (c : ℕ) (p : Place) → is_live m e ≡ false → is_concrete meta c ≡ true
+    → IsPlace meta m p → create_refusal meta m c p ≡ None → MayCreate meta m e c p
 may_create meta m good e c p fresh concrete is open_ =
     let t = passed (create_tests meta m c p) open_ in
     record {
@@ -63,7 +64,9 @@ left_or : (b c : Bool) → b || c ≡ true → b ≡ false → c ≡ true
 left_or true c h g = cc
 left_or false c h g = h
 
-module _ (meta : Meta) (sound : Sound meta) (m : State) (good : Good meta m) (e : IdBytes) (to : Place) (at : Option ℕ) (live : is_live m e ≡ true) (is : IsPlace meta m to) (up down : List IdBytes) (above_from : IsChain m.place (Some (place_of m e)) up) (above_to : IsChain m.place (Some to) down) where
+module _ (meta : Meta) (sound : Sound meta) (m : State) (good : Good meta m) (e : IdBytes) (to : Place) (at : Option ℕ) (live : is_live m e ≡ true)
+    (is : IsPlace meta m to) (up down : List IdBytes) (above_from : IsChain m.place (Some (place_of m e)) up)
+    (above_to : IsChain m.place (Some to) down) where
   abbrev xs : List Entry
   xs = children m.place m.prank to
 
@@ -84,7 +87,8 @@ module _ (meta : Meta) (sound : Sound meta) (m : State) (good : Good meta m) (e 
   }
 
   -- it may move to the other place
-  pub may_arrive : first_refusal (move_tests meta m e to down at) ≡ None → place_eq (place_of m e) to ≡ false → AllPass (arrival_tests meta m to xs at) → MayMoveTo meta m e (place_of m e) to outer up down
+  pub may_arrive : first_refusal (move_tests meta m e to down at) ≡ None → place_eq (place_of m e) to ≡ false
+      → AllPass (arrival_tests meta m to xs at) → MayMoveTo meta m e (place_of m e) to outer up down
   may_arrive open_ differ tests =
       let t = passed (move_tests meta m e to down at) open_ in
       record {
@@ -103,7 +107,8 @@ module _ (meta : Meta) (sound : Sound meta) (m : State) (good : Good meta m) (e 
   leads open_ =
       let t = passed (move_tests meta m e to down at) open_ in
       elim (place_eq (place_of m e) to) as (λ b. place_eq (place_of m e) to ≡ b → AllPass (cond b (within_tests e xs at) (arrival_tests meta m to xs at))
-      → fold meta m (cond b (move_within_made m e to (unwrap_or at (length (without_entry e xs)))) (move_to_made m e (place_of m e) to (unwrap_or at (length xs)) up down))
+      → fold meta m (cond b (move_within_made m e to (unwrap_or at (length (without_entry e xs))))
+      (move_to_made m e (place_of m e) to (unwrap_or at (length xs)) up down))
       ≡ Some (cond b (move_within_after m e to (unwrap_or at (length (without_entry e xs)))) (move_to_after m e to (unwrap_or at (length xs))))) [
         | true ↦ λ same tests. move_within_meets meta sound m good e to inner (may_within same tests)
         | false ↦ λ differ tests. move_to_meets meta sound m good e (place_of m e) to outer up down (may_arrive open_ differ tests)
@@ -126,7 +131,8 @@ pub move_leads : MoveLeads
 move_leads meta sound m good e to at live is down above_to open_ steps move =
     let same : down ≡ move.down = one_chain m (Some to) down move.down above_to move.above_to in
     ap (fold meta m) move.made
-    ∙ leads meta sound m good e to at live is move.up move.down move.above_from move.above_to (subst (λ d. first_refusal (move_tests meta m e to d at) ≡ None) same open_)
+    ∙ leads meta sound m good e to at live is move.up move.down move.above_from move.above_to
+    (subst (λ d. first_refusal (move_tests meta m e to d at) ≡ None) same open_)
 
 pub moved_stands_there : MovedStands
 moved_stands_there meta sound m good e to at live is down above_to open_ =

@@ -33,7 +33,8 @@ plain_some meta (Contains t o) d h = cc
 plain_some meta (Container t o) d h = cc
 plain_some meta Skip d h = cc
 
-source_plain : (meta : Meta) (c : Option ℕ) (f : ℕ) (d : Option ℕ) → may_link meta c f d ≡ true → (class_has meta c f ≡ true) × (is_plain (kind_of meta f) ≡ true)
+source_plain : (meta : Meta) (c : Option ℕ) (f : ℕ) (d : Option ℕ) → may_link meta c f d ≡ true
+    → (class_has meta c f ≡ true) × (is_plain (kind_of meta f) ≡ true)
 source_plain meta None f d h = cc
 source_plain meta (Some c) f None h = cc
 source_plain meta (Some c) f (Some d) h = (and_first _ _ h, plain_some meta (kind_of meta f) d (and_second (has_feature meta c f) _ h))
@@ -42,8 +43,10 @@ module _ (meta : Meta) (m : State) (p : Kind → Bool) where
   pub slot_in : (x : IdBytes) (f : ℕ) (xs : List IdBytes) → In x xs → In f (features_of meta p (get m.kind x)) → In {A = AttrKey} (x, f) (slots_of meta m p xs)
   slot_in x f [] h g = absurd h
   slot_in x f (y ∷ ys) (inl e) g = in_left {A = AttrKey} (x, f) (map {B = AttrKey} (λ f. (y, f)) (features_of meta p (get m.kind y))) (slots_of meta m p ys)
-      (subst (λ (z : IdBytes). In {A = AttrKey} (x, f) (map {B = AttrKey} (λ f. (z, f)) (features_of meta p (get m.kind z)))) e (map_in {B = AttrKey} (λ f. (x, f)) f (features_of meta p (get m.kind x)) g))
-  slot_in x f (y ∷ ys) (inr h) g = in_right {A = AttrKey} (x, f) (map {B = AttrKey} (λ f. (y, f)) (features_of meta p (get m.kind y))) (slots_of meta m p ys) (slot_in x f ys h g)
+      (subst (λ (z : IdBytes). In {A = AttrKey} (x, f) (map {B = AttrKey} (λ f. (z, f)) (features_of meta p (get m.kind z)))) e
+      (map_in {B = AttrKey} (λ f. (x, f)) f (features_of meta p (get m.kind x)) g))
+  slot_in x f (y ∷ ys) (inr h) g =
+      in_right {A = AttrKey} (x, f) (map {B = AttrKey} (λ f. (y, f)) (features_of meta p (get m.kind y))) (slots_of meta m p ys) (slot_in x f ys h g)
 
   pub in_slots : (s : AttrKey) (xs : List IdBytes) → In s (slots_of meta m p xs) → In s.0 xs × In s.1 (features_of meta p (get m.kind s.0))
   in_slots s [] h = absurd h
@@ -52,8 +55,11 @@ module _ (meta : Meta) (m : State) (p : Kind → Bool) where
         | inl l ↦
             let at = in_map {B = AttrKey} (λ f. (y, f)) s (features_of meta p (get m.kind y)) l in
             let name : s.0 ≡ y = ap (λ (q : AttrKey). q.0) at.2 in
-            let feature : s.1 ≡ at.0 = ap (λ (q : AttrKey). q.1) at.2 in
-            (inl name, subst (λ (z : IdBytes). In s.1 (features_of meta p (get m.kind z))) (sym name) (subst (λ g. In g (features_of meta p (get m.kind y))) (sym feature) at.1))
+            let feature : s.1 ≡ at.0 = ap (λ (q : AttrKey). q.1) at.2 in (
+              inl name,
+              subst (λ (z : IdBytes). In s.1 (features_of meta p (get m.kind z))) (sym name)
+                  (subst (λ g. In g (features_of meta p (get m.kind y))) (sym feature) at.1),
+            )
         | inr r ↦ let rest = in_slots s ys r in (inr rest.0, rest.1)
       ]
 
@@ -66,7 +72,9 @@ module _ (meta : Meta) (m : State) (p : Kind → Bool) where
 
   pub slots_distinct : (xs : List IdBytes) → Distinct xs → Distinct (slots_of meta m p xs)
   slots_distinct [] d = tt
-  slots_distinct (y ∷ ys) d = distinct_join (map {B = AttrKey} (λ f. (y, f)) (features_of meta p (get m.kind y))) (slots_of meta m p ys) (distinct_at y (features_of meta p (get m.kind y)) (features_distinct meta p (get m.kind y))) (slots_distinct ys d.1) (λ s l r.
+  slots_distinct (y ∷ ys) d =
+      distinct_join (map {B = AttrKey} (λ f. (y, f)) (features_of meta p (get m.kind y))) (slots_of meta m p ys)
+      (distinct_at y (features_of meta p (get m.kind y)) (features_distinct meta p (get m.kind y))) (slots_distinct ys d.1) (λ s l r.
       let at = in_map {B = AttrKey} (λ f. (y, f)) s (features_of meta p (get m.kind y)) l in
       d.0 (subst (λ (z : IdBytes). In z ys) (ap (λ (q : AttrKey). q.0) at.2) (in_slots s ys r).0))
 
@@ -75,16 +83,20 @@ or_true true = refl
 or_true false = refl
 
 -- a feature among them takes its rows away, and their mirrors
-pub touched_by : (meta : Meta) (slots : List AttrKey) (s : AttrKey) (k : RowKey) → In s slots → is_row_or_mirror (opposite_of meta s.1) s.0 s.1 k ≡ true → is_touched meta slots k ≡ true
+pub touched_by : (meta : Meta) (slots : List AttrKey) (s : AttrKey) (k : RowKey) → In s slots
+    → is_row_or_mirror (opposite_of meta s.1) s.0 s.1 k ≡ true → is_touched meta slots k ≡ true
 touched_by meta [] s k h near = absurd h
-touched_by meta (t ∷ ts) s k (inl e) near = ap (λ b. b || is_touched meta ts k) (ap (λ (q : AttrKey). is_row_or_mirror (opposite_of meta q.1) q.0 q.1 k) (sym e) ∙ near)
+touched_by meta (t ∷ ts) s k (inl e) near =
+    ap (λ b. b || is_touched meta ts k) (ap (λ (q : AttrKey). is_row_or_mirror (opposite_of meta q.1) q.0 q.1 k) (sym e) ∙ near)
 touched_by meta (t ∷ ts) s k (inr h) near = ap (λ b. is_row_or_mirror (opposite_of meta t.1) t.0 t.1 k || b) (touched_by meta ts s k h near) ∙ or_true _
 
 -- and no others
-pub touched_near : (meta : Meta) (slots : List AttrKey) (k : RowKey) → is_touched meta slots k ≡ true → (s : AttrKey) × In s slots × (is_row_or_mirror (opposite_of meta s.1) s.0 s.1 k ≡ true)
+pub touched_near : (meta : Meta) (slots : List AttrKey) (k : RowKey) → is_touched meta slots k ≡ true
+    → (s : AttrKey) × In s slots × (is_row_or_mirror (opposite_of meta s.1) s.0 s.1 k ≡ true)
 touched_near meta [] k h = cc
 touched_near meta (t ∷ ts) k h =
-    elim (is_row_or_mirror (opposite_of meta t.1) t.0 t.1 k) as (λ b. is_row_or_mirror (opposite_of meta t.1) t.0 t.1 k ≡ b → b || is_touched meta ts k ≡ true → (s : AttrKey) × In s (t ∷ ts) × (is_row_or_mirror (opposite_of meta s.1) s.0 s.1 k ≡ true)) [
+    elim (is_row_or_mirror (opposite_of meta t.1) t.0 t.1 k) as (λ b. is_row_or_mirror (opposite_of meta t.1) t.0 t.1 k ≡ b
+    → b || is_touched meta ts k ≡ true → (s : AttrKey) × In s (t ∷ ts) × (is_row_or_mirror (opposite_of meta s.1) s.0 s.1 k ≡ true)) [
       | true ↦ λ is _. (t, inl refl, is)
       | false ↦ λ _ g. let rest = touched_near meta ts k g in (rest.0, inr rest.1, rest.2)
     ] refl h
@@ -110,7 +122,9 @@ module _ (meta : Meta) (sound : Sound meta) (m : State) (good : Good meta m) (xs
         | Some g ↦ λ is.
             let back = some_rank (get m.row (x, g, s)) (sym (good.rows.mirrored s f x g is) ∙ ap is_some here) in
             let slot = row_slot x g s back.0 (among_in x xs one) back.1 in
-            let near : is_row_or_mirror (opposite_of meta g) x g (s, f, x) ≡ true = ap (λ o. is_row_or_mirror o x g (s, f, x)) (sound.both f g is) ∙ ap (λ b. (text_eq x s && nat_eq g f) || b) (and_both _ _ (nat_equality.own f) (text_equality.own x)) ∙ or_true _ in
+            let near : is_row_or_mirror (opposite_of meta g) x g (s, f, x) ≡ true =
+            ap (λ o. is_row_or_mirror o x g (s, f, x)) (sound.both f g is)
+            ∙ ap (λ b. (text_eq x s && nat_eq g f) || b) (and_both _ _ (nat_equality.own f) (text_equality.own x)) ∙ or_true _ in
             absurd (true_false (is_touched meta slots (s, f, x)) (touched_by meta slots (x, g) (s, f, x) slot near) away)
       ] refl
 
@@ -139,7 +153,9 @@ module _ (meta : Meta) (sound : Sound meta) (m : State) (good : Good meta m) (xs
     where
       by_mirror : (o : Option ℕ) → is_mirror o s.0 k ≡ true → In s.0 xs → is_among xs k.0 || is_among xs k.2 ≡ true
       by_mirror None g one = cc
-      by_mirror (Some f) g one = ap (λ b. is_among xs k.0 || b) (in_among k.2 xs (subst (λ (z : IdBytes). In z xs) (text_equality.exact s.0 k.2 (and_second (nat_eq f k.1) _ g)) one)) ∙ or_true _
+      by_mirror (Some f) g one =
+          ap (λ b. is_among xs k.0 || b)
+          (in_among k.2 xs (subst (λ (z : IdBytes). In z xs) (text_equality.exact s.0 k.2 (and_second (nat_eq f k.1) _ g)) one)) ∙ or_true _
 
   -- the rows that stay are those with both ends outside
   pub rows_left : without (is_gone meta slots (gathered xs [])) m.row ≡ without (λ (k : RowKey). is_among xs k.0 || is_among xs k.2) m.row
@@ -149,7 +165,8 @@ module _ (meta : Meta) (sound : Sound meta) (m : State) (good : Good meta m) (xs
       ∙ sym (get-without row_order (λ (k : RowKey). is_among xs k.0 || is_among xs k.2) m.row k))
     where
       out : (k : RowKey) (r : ℕ) → get m.row k ≡ Some r → is_among xs k.0 ≡ true → is_touched meta slots k ≡ true
-      out k r is one = touched_by meta slots (k.0, k.1) k (row_slot k.0 k.1 k.2 r (among_in k.0 xs one) is) (ap (λ b. b || is_mirror (opposite_of meta k.1) k.0 k) (and_both _ _ (text_equality.own k.0) (nat_equality.own k.1)))
+      out k r is one = touched_by meta slots (k.0, k.1) k (row_slot k.0 k.1 k.2 r (among_in k.0 xs one) is)
+          (ap (λ b. b || is_mirror (opposite_of meta k.1) k.0 k) (and_both _ _ (text_equality.own k.0) (nat_equality.own k.1)))
 
       test : (k : RowKey) (r : ℕ) → get m.row k ≡ Some r → is_gone meta slots (gathered xs []) k ≡ is_among xs k.0 || is_among xs k.2
       test k r is =
@@ -164,10 +181,14 @@ module _ (meta : Meta) (sound : Sound meta) (m : State) (good : Good meta m) (xs
           second none false far =
               ap (λ b. b || false) (not_so (is_touched meta slots k) (λ touched.
               let near = touched_near meta slots k touched in
-              true_false (is_among xs k.0 || is_among xs k.2) (near_end near.0 (opposite_of meta near.0.1) k near.1 near.2) (ap (λ b. b || is_among xs k.2) none ∙ far)))
+              true_false (is_among xs k.0 || is_among xs k.2) (near_end near.0 (opposite_of meta near.0.1) k near.1 near.2)
+              (ap (λ b. b || is_among xs k.2) none ∙ far)))
 
-      here : (k : RowKey) (o : Option ℕ) → get m.row k ≡ o → cond (is_gone meta slots (gathered xs []) k) None (get m.row k) ≡ cond (is_among xs k.0 || is_among xs k.2) None (get m.row k)
-      here k None is = ap (λ o. cond (is_gone meta slots (gathered xs []) k) None o) is ∙ nothing (is_gone meta slots (gathered xs []) k) (is_among xs k.0 || is_among xs k.2) ∙ sym (ap (λ o. cond (is_among xs k.0 || is_among xs k.2) None o) is)
+      here : (k : RowKey) (o : Option ℕ) → get m.row k ≡ o
+          → cond (is_gone meta slots (gathered xs []) k) None (get m.row k) ≡ cond (is_among xs k.0 || is_among xs k.2) None (get m.row k)
+      here k None is = ap (λ o. cond (is_gone meta slots (gathered xs []) k) None o) is
+          ∙ nothing (is_gone meta slots (gathered xs []) k) (is_among xs k.0 || is_among xs k.2)
+          ∙ sym (ap (λ o. cond (is_among xs k.0 || is_among xs k.2) None o) is)
         where
           nothing : (b c : Bool) → ◌≡◌ {A = Option ℕ} (cond b None None) (cond c None None)
           nothing true true = refl

@@ -41,7 +41,8 @@ module _ (place : FinMap id_cmp Place) where
   none : (k : ℕ) → k ≡ 0 + k
   none k = omega arith
 
-  pub up_chain : (n : ℕ) (y z : IdBytes) (up : List IdBytes) → IsChain place (get place y) up → Up place n y z → (rest : List IdBytes) × IsChain place (get place z) rest × (length up ≡ n + length rest)
+  pub up_chain : (n : ℕ) (y z : IdBytes) (up : List IdBytes) → IsChain place (get place y) up → Up place n y z
+      → (rest : List IdBytes) × IsChain place (get place z) rest × (length up ≡ n + length rest)
   up_chain zero y z up chain h = (up, subst (λ x. IsChain place (get place x) up) h chain, none (length up))
   up_chain (suc n) y z [] chain h = absurd (subst (λ o. IsChain place o []) h.2 chain)
   up_chain (suc n) y z (x ∷ xs) chain h =
@@ -49,7 +50,8 @@ module _ (place : FinMap id_cmp Place) where
       let rest = up_chain n h.0 z xs (subst (λ a. IsChain place (get place a) xs) at.0 at.1) h.3 in
       (rest.0, rest.1, long n (length xs) (length rest.0) rest.2)
 
-  one_up : (y z x : IdBytes) (xs : List IdBytes) (q : Place) → get place y ≡ Some q → IsChain place (Some q) (x ∷ xs) → (IsChain place (get place x) xs → (n : ℕ) × Up place n x z) → (n : ℕ) × Up place n y z
+  one_up : (y z x : IdBytes) (xs : List IdBytes) (q : Place) → get place y ≡ Some q → IsChain place (Some q) (x ∷ xs)
+      → (IsChain place (get place x) xs → (n : ℕ) × Up place n x z) → (n : ℕ) × Up place n y z
   one_up y z x xs Root is chain rest = absurd chain
   one_up y z x xs (Inside a f) is chain rest = let above = rest chain.1 in (suc above.0, (a, f, is, subst (λ b. Up place above.0 b z) chain.0 above.1))
 
@@ -125,7 +127,8 @@ module _ (meta : Meta) (m : State) (good : Good meta m) where
   siblings s c d f g is it differ zero up = differ up
   siblings s c d f g is it differ (suc n) up = no_loop n s (up_more m.place n s d s g (up_first m.place n c s d f is up) it)
 
-  aside_siblings : (s c : IdBytes) (f : ℕ) (ds : List IdBytes) → get m.place c ≡ Some (Inside s f) → AllInside m.place s ds → (In c ds → ⊥) → AsideAll m.place c ds
+  aside_siblings : (s c : IdBytes) (f : ℕ) (ds : List IdBytes) → get m.place c ≡ Some (Inside s f) → AllInside m.place s ds → (In c ds → ⊥)
+      → AsideAll m.place c ds
   aside_siblings s c f [] is all apart = tt
   aside_siblings s c f (d ∷ ds) is all apart = (
     (siblings s c d f all.0.0 is all.0.1 (λ e. apart (inl e)), siblings s d c all.0.0 f all.0.1 is (λ e. apart (inl (sym e)))),
@@ -144,9 +147,11 @@ module _ (meta : Meta) (m : State) (good : Good meta m) where
   aside_below s c f [] is all = tt
   aside_below s c f (t ∷ ts) is all = ((below s c t f is all.0, λ n up. all.0.1 (suc n) (up_more m.place n t c s f up is)), aside_below s c f ts is all.1)
 
-  spread_on : (s : IdBytes) (cs ts : List IdBytes) → AllInside m.place s cs → Spread m.place cs → AsideAll m.place s ts → Spread m.place ts → Spread m.place (cs ++ ts)
+  spread_on : (s : IdBytes) (cs ts : List IdBytes) → AllInside m.place s cs → Spread m.place cs → AsideAll m.place s ts → Spread m.place ts
+      → Spread m.place (cs ++ ts)
   spread_on s [] ts all spread aside rest = rest
-  spread_on s (c ∷ cs) ts all spread aside rest = (aside_join m.place c cs ts spread.0 (aside_below s c all.0.0 ts all.0.1 aside), spread_on s cs ts all.1 spread.1 aside rest)
+  spread_on s (c ∷ cs) ts all spread aside rest =
+      (aside_join m.place c cs ts spread.0 (aside_below s c all.0.0 ts all.0.1 aside), spread_on s cs ts all.1 spread.1 aside rest)
 
   module _ (known : HasChildren meta m) where
     -- each of a forest is at or below one of the roots
@@ -158,7 +163,8 @@ module _ (meta : Meta) (m : State) (good : Good meta m) where
     forest_below (r ∷ rs) (x ∷ xs) h y (inr l) =
         let under = forest_below (children_of meta m r ++ rs) xs h.1 y l in
         elim (in_either under.0 (children_of meta m r) rs under.1) [
-          | inl c ↦ let at = inside_at m.place r under.0 (children_of meta m r) (known.inside r) c in (r, inl refl, suc under.2, up_more m.place under.2 y under.0 r at.0 under.3 at.1)
+          | inl c ↦ let at = inside_at m.place r under.0 (children_of meta m r) (known.inside r) c
+              in (r, inl refl, suc under.2, up_more m.place under.2 y under.0 r at.0 under.3 at.1)
           | inr t ↦ (under.0, inr t, under.2, under.3)
         ]
 
@@ -182,10 +188,13 @@ module _ (meta : Meta) (m : State) (good : Good meta m) where
       λ again.
           let under = forest_below (children_of meta m r ++ rs) xs h.1 x again in
           elim (in_either under.0 (children_of meta m r) rs under.1) [
-            | inl c ↦ let at = inside_at m.place r under.0 (children_of meta m r) (known.inside r) c in no_loop under.2 r (up_more m.place under.2 r under.0 r at.0 (subst (λ z. Up m.place under.2 z under.0) h.0 under.3) at.1)
+            | inl c ↦ let at = inside_at m.place r under.0 (children_of meta m r) (known.inside r) c
+                in no_loop under.2 r (up_more m.place under.2 r under.0 r at.0 (subst (λ z. Up m.place under.2 z under.0) h.0 under.3) at.1)
             | inr t ↦ (aside_at m.place r under.0 rs spread.0 t).0 under.2 (subst (λ z. Up m.place under.2 z under.0) h.0 under.3)
           ],
-      forest_ordered (children_of meta m r ++ rs) xs (spread_on r (children_of meta m r) rs (known.inside r) (spread_siblings r (children_of meta m r) (known.inside r) (known.distinct r)) spread.0 spread.1) h.1,
+      forest_ordered (children_of meta m r ++ rs) xs
+          (spread_on r (children_of meta m r) rs (known.inside r)
+          (spread_siblings r (children_of meta m r) (known.inside r) (known.distinct r)) spread.0 spread.1) h.1,
     )
 
     inner_in : (xs : List IdBytes) → Ordered xs → (z c : IdBytes) (f : ℕ) → In z xs → get m.place c ≡ Some (Inside z f) → In c xs

@@ -65,23 +65,28 @@ module _ (meta : Meta) (sound : Sound meta) (m : State) where
 
   kept_still : (attr : Attrs) (s : AttrKey) (ss : List AttrKey) → (In s ss → ⊥) → Kept attr ss → Kept (set attr s None) ss
   kept_still attr s [] apart kept = tt
-  kept_still attr s (t ∷ ts) apart kept = (get-set_other attr_order attr s None t (keys_apart s t (λ e. apart (inl e))) ∙ kept.0, kept_still attr s ts (λ h. apart (inr h)) kept.1)
+  kept_still attr s (t ∷ ts) apart kept =
+      (get-set_other attr_order attr s None t (keys_apart s t (λ e. apart (inl e))) ∙ kept.0, kept_still attr s ts (λ h. apart (inr h)) kept.1)
 
   pub kept_all : (ss : List AttrKey) → Kept m.attr ss
   kept_all [] = tt
   kept_all (s ∷ ss) = (refl, kept_all ss)
 
-  one_empty : (n : State) → Good meta n → (s : AttrKey) → class_has meta (get n.kind s.0) s.1 ≡ true → holds_values (kind_of meta s.1) ≡ true → get n.attr s ≡ get m.attr s → fold meta n (emptied_made meta m s) ≡ Some (record n { attr = set n.attr s None })
+  one_empty : (n : State) → Good meta n → (s : AttrKey) → class_has meta (get n.kind s.0) s.1 ≡ true → holds_values (kind_of meta s.1) ≡ true
+      → get n.attr s ≡ get m.attr s → fold meta n (emptied_made meta m s) ≡ Some (record n { attr = set n.attr s None })
   one_empty n good s has is kept =
-      elim (is_attr (kind_of meta s.1)) as (λ b. is_attr (kind_of meta s.1) ≡ b → fold meta n (cond b (put_made m s.0 s.1 None) (clear_made m s.0 s.1)) ≡ Some (record n { attr = set n.attr s None })) [
+      elim (is_attr (kind_of meta s.1)) as (λ b. is_attr (kind_of meta s.1) ≡ b
+      → fold meta n (cond b (put_made m s.0 s.1 None) (clear_made m s.0 s.1)) ≡ Some (record n { attr = set n.attr s None })) [
         | true ↦ λ single. ap (fold meta n) (put_same single) ∙ put_meets meta n good s.0 s.1 None (has, single) refl refl
-        | false ↦ λ many. ap (fold meta n) (ap (λ o. dels s.0 s.1 0 (values_of o)) (sym kept)) ∙ clear_meets meta n good s.0 s.1 (has, or_right (is_attr (kind_of meta s.1)) _ is many)
+        | false ↦ λ many. ap (fold meta n) (ap (λ o. dels s.0 s.1 0 (values_of o)) (sym kept))
+            ∙ clear_meets meta n good s.0 s.1 (has, or_right (is_attr (kind_of meta s.1)) _ is many)
       ] refl
     where
       put_same : is_attr (kind_of meta s.1) ≡ true → put_made m s.0 s.1 None ≡ put_made n s.0 s.1 None
       put_same single = ap (put_by s) (sym kept)
 
-  pub values_lead : (ss : List AttrKey) (n : State) → Good meta n → Attributes meta n.kind ss → Distinct ss → Kept n.attr ss → fold meta n (values_made meta m ss) ≡ Some (record n { attr = emptied ss n.attr })
+  pub values_lead : (ss : List AttrKey) (n : State) → Good meta n → Attributes meta n.kind ss → Distinct ss → Kept n.attr ss
+      → fold meta n (values_made meta m ss) ≡ Some (record n { attr = emptied ss n.attr })
   values_lead [] n good all d kept = refl
   values_lead (s ∷ ss) n good all d kept =
       let next : State = record n { attr = set n.attr s None } in
@@ -92,7 +97,10 @@ module _ (meta : Meta) (sound : Sound meta) (m : State) where
 -- ---- what is left
 emptied_none : (ss : List AttrKey) (attr : Attrs) (k : AttrKey) → get attr k ≡ None → get (emptied ss attr) k ≡ None
 emptied_none [] attr k h = h
-emptied_none (s ∷ ss) attr k h = emptied_none ss (set attr s None) k (by_key attr_order (λ q. get attr q ≡ None → get (set attr s None) q ≡ None) s k (λ _. get-set_same attr_order attr s None) (λ far g. get-set_other attr_order attr s None k far ∙ g) h)
+emptied_none (s ∷ ss) attr k h =
+    emptied_none ss (set attr s None) k
+    (by_key attr_order (λ q. get attr q ≡ None → get (set attr s None) q ≡ None) s k (λ _. get-set_same attr_order attr s None)
+    (λ far g. get-set_other attr_order attr s None k far ∙ g) h)
 
 emptied_here : (ss : List AttrKey) (attr : Attrs) (k : AttrKey) → In k ss → get (emptied ss attr) k ≡ None
 emptied_here [] attr k h = absurd h
@@ -101,7 +109,8 @@ emptied_here (s ∷ ss) attr k (inr h) = emptied_here ss (set attr s None) k h
 
 emptied_other : (ss : List AttrKey) (attr : Attrs) (k : AttrKey) → (In k ss → ⊥) → get (emptied ss attr) k ≡ get attr k
 emptied_other [] attr k far = refl
-emptied_other (s ∷ ss) attr k far = emptied_other ss (set attr s None) k (λ h. far (inr h)) ∙ get-set_other attr_order attr s None k (keys_apart s k (λ e. far (inl (sym e))))
+emptied_other (s ∷ ss) attr k far =
+    emptied_other ss (set attr s None) k (λ h. far (inr h)) ∙ get-set_other attr_order attr s None k (keys_apart s k (λ e. far (inl (sym e))))
 
 value_kind : (meta : Meta) (k : Kind) (upper : Option ℕ) (vs : List Value) → ValuesOk meta k upper vs → holds_values k ≡ true
 value_kind meta (Attr scalar default) upper vs ok = refl
@@ -112,7 +121,8 @@ value_kind meta (Contains t o) upper vs ok = absurd ok
 value_kind meta (Container t o) upper vs ok = absurd ok
 value_kind meta Skip upper vs ok = absurd ok
 
-entry_kind : (meta : Meta) (c : Option ℕ) (f : ℕ) (vs : List Value) → AttrOk meta c f (Some vs) → (class_has meta c f ≡ true) × (holds_values (kind_of meta f) ≡ true)
+entry_kind : (meta : Meta) (c : Option ℕ) (f : ℕ) (vs : List Value) → AttrOk meta c f (Some vs)
+    → (class_has meta c f ≡ true) × (holds_values (kind_of meta f) ≡ true)
 entry_kind meta None f vs ok = absurd ok
 entry_kind meta (Some c) f vs ok = (ok.0, value_kind meta (kind_of meta f) (upper_of meta f) vs ok.1)
 
@@ -128,7 +138,8 @@ module _ (meta : Meta) (m : State) (good : Good meta m) (xs : List IdBytes) wher
   all_attributes [] h = tt
   all_attributes (s ∷ ss) h =
       let listed = (in_slots meta m holds_values s xs (h s (inl refl))).1 in
-      let is = and_pair _ _ (in_filter (λ f. class_has meta (get m.kind s.0) f && holds_values (kind_of meta f)) s.1 (numbers (length meta.features)) listed).1 in
+      let is = and_pair _ _ (in_filter (λ f. class_has meta (get m.kind s.0) f && holds_values (kind_of meta f)) s.1
+      (numbers (length meta.features)) listed).1 in
       (is.0, is.1, all_attributes ss (λ t l. h t (inr l)))
 
   pub attributes : Attributes meta m.kind slots
@@ -147,4 +158,5 @@ module _ (meta : Meta) (m : State) (good : Good meta m) (xs : List IdBytes) wher
       here k one None is = emptied_none slots m.attr k is
       here k one (Some vs) is =
           let ok = entry_kind meta (get m.kind k.0) k.1 vs (subst (λ o. AttrOk meta (get m.kind k.0) k.1 o) is (good.attrs.typed k.0 k.1)) in
-          emptied_here slots m.attr k (slot_in meta m holds_values k.0 k.1 xs (among_in k.0 xs one) (feature_listed meta holds_values (get m.kind k.0) k.1 refl ok.0 ok.1))
+          emptied_here slots m.attr k
+          (slot_in meta m holds_values k.0 k.1 xs (among_in k.0 xs one) (feature_listed meta holds_values (get m.kind k.0) k.1 refl ok.0 ok.1))

@@ -36,7 +36,8 @@ targets_left meta row before s = filter (λ (x : Entry). not (is_touched meta be
 -- each feature in turn, after those before, is unlinked from the targets that are left
 abbrev pub outgoing_made : Meta → Rows → List AttrKey → List AttrKey → List Step
 outgoing_made meta row before [] = []
-outgoing_made meta row before (s ∷ ss) = unlinks row (opposite_of meta s.1) s.0 s.1 (targets_left meta row before s) ++ outgoing_made meta row (before ++ s ∷ []) ss
+outgoing_made meta row before (s ∷ ss) =
+    unlinks row (opposite_of meta s.1) s.0 s.1 (targets_left meta row before s) ++ outgoing_made meta row (before ++ s ∷ []) ss
 
 -- ---- the rows to the elements
 -- the unlink of a row to x

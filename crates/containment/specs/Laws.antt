@@ -23,7 +23,8 @@ use Rattle.containment.specs.Containers.{containers_of}
 
 -- an element is created, last in its place
 abbrev pub CreateLeads : Type 0
-CreateLeads = (meta : Meta) → Sound meta → (m : State) → Good meta m → (e : IdBytes) (c : ℕ) (p : Place) → is_live m e ≡ false → is_concrete meta c ≡ true → IsPlace meta m p → create_refusal meta m c p ≡ None
+CreateLeads = (meta : Meta) → Sound meta → (m : State) → Good meta m → (e : IdBytes) (c : ℕ) (p : Place) → is_live m e ≡ false
+    → is_concrete meta c ≡ true → IsPlace meta m p → create_refusal meta m c p ≡ None
     → fold meta m (create_made m e c p) ≡ Some (create_after m e c p)
 
 -- an element moves
@@ -49,7 +50,8 @@ SubtreeIsBelow = (meta : Meta) (m : State) → Good meta m → (e : IdBytes) (y 
 
 -- its elements are live
 abbrev pub SubtreeIsLive : Type 0
-SubtreeIsLive = (meta : Meta) (m : State) → Good meta m → (e : IdBytes) → is_live m e ≡ true → (y : IdBytes) → is_among (subtree_of meta m e) y ≡ true → is_live m y ≡ true
+SubtreeIsLive = (meta : Meta) (m : State) → Good meta m → (e : IdBytes) → is_live m e ≡ true → (y : IdBytes) → is_among (subtree_of meta m e) y ≡ true
+    → is_live m y ≡ true
 
 -- a place's containers are its chain, and no other list is
 abbrev pub ContainersAreChain : Type 0
@@ -57,7 +59,8 @@ ContainersAreChain = (meta : Meta) (m : State) → Good meta m → (p : Place) (
 
 -- an element that is created stands last in its place, and each other place is as it was
 abbrev pub CreatedStands : Type 0
-CreatedStands = (meta : Meta) → Sound meta → (m : State) → Good meta m → (e : IdBytes) (c : ℕ) (p : Place) → is_live m e ≡ false → is_concrete meta c ≡ true → IsPlace meta m p → create_refusal meta m c p ≡ None
+CreatedStands = (meta : Meta) → Sound meta → (m : State) → Good meta m → (e : IdBytes) (c : ℕ) (p : Place) → is_live m e ≡ false
+    → is_concrete meta c ≡ true → IsPlace meta m p → create_refusal meta m c p ≡ None
     → Placed m (create_after m e c p) e p (length (children m.place m.prank p))
 
 -- An element that moves stands at the index of the others of its new place, None for their end. Each other place is as it was,

@@ -23,7 +23,8 @@ move_after m e to at =
 abbrev pub move_made : State → IdBytes → Place → Option ℕ → List IdBytes → List IdBytes → List Step
 move_made m e to at up down =
     let xs = children m.place m.prank to in
-    cond (place_eq (place_of m e) to) (move_within_made m e to (unwrap_or at (length (without_entry e xs)))) (move_to_made m e (place_of m e) to (unwrap_or at (length xs)) up down)
+    cond (place_eq (place_of m e) to) (move_within_made m e to (unwrap_or at (length (without_entry e xs))))
+    (move_to_made m e (place_of m e) to (unwrap_or at (length xs)) up down)
 
 -- the steps are those of the move
 pub record IsMove (m : State) (e : IdBytes) (to : Place) (at : Option ℕ) (steps : List Step) : Type 0 where

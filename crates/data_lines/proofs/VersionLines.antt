@@ -12,12 +12,14 @@ first_dropped : (vs : List Version) (n : ℕ) (v : Version) → slice_get vs n �
 first_dropped vs n v there =
     drop-cons vs n v (slice_get_within vs n v there) ∙ ap (λ w. w ∷ drop (suc n) vs) (get_or_from_slice_get vs n v v there)
 
-lines_next : (h : History) (n m : ℕ) (v : Version) → m ≡ suc n → slice_get h.versions n ≡ Some v → version_lines h n (drop n h.versions) ≡ version_line h n v ∷ version_lines h m (drop m h.versions)
+lines_next : (h : History) (n m : ℕ) (v : Version) → m ≡ suc n → slice_get h.versions n ≡ Some v
+    → version_lines h n (drop n h.versions) ≡ version_line h n v ∷ version_lines h m (drop m h.versions)
 lines_next h n m v is there =
     ap (λ vs. version_lines h n vs) (first_dropped h.versions n v there) ∙ ap (λ k. version_line h n v ∷ version_lines h k (drop k h.versions)) (sym is)
 
 -- its line comes after those before it
-pub next_line : (h : History) (n : ℕ) (v : Version) (lines : List (List ℕ)) → slice_get h.versions n ≡ Some v → lines ++ version_lines h n (drop n h.versions) ≡ version_lines h 0 h.versions
+pub next_line : (h : History) (n : ℕ) (v : Version) (lines : List (List ℕ)) → slice_get h.versions n ≡ Some v
+    → lines ++ version_lines h n (drop n h.versions) ≡ version_lines h 0 h.versions
     → (lines ++ version_line h n v ∷ []) ++ version_lines h (n + 1) (drop (n + 1) h.versions) ≡ version_lines h 0 h.versions
 next_line h n v lines there known =
     append_assoc lines (version_line h n v ∷ []) (version_lines h (n + 1) (drop (n + 1) h.versions))

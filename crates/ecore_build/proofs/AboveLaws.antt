@@ -50,7 +50,8 @@ module _ (supers : List (List ℕ)) (inside : Inside supers) where
       let cycle : is_cyclic supers c ≡ true = any_at (λ x. is_above supers x c) b (supers_of supers c) at.0 round in
       let e : true ≡ false = cycle_found supers c below (sym cycle) ∙ none in cc
 
-rising_all : (g : ℕ → List ℕ) → ((k : ℕ) → IsStrictlySortedBy nat_cmp (g k)) → (a n c : ℕ) → IsStrictlySortedBy nat_cmp (option_map_or (λ ds. ds) (slice_get (map g (range_with_len a n)) c) [])
+rising_all : (g : ℕ → List ℕ) → ((k : ℕ) → IsStrictlySortedBy nat_cmp (g k)) → (a n c : ℕ)
+    → IsStrictlySortedBy nat_cmp (option_map_or (λ ds. ds) (slice_get (map g (range_with_len a n)) c) [])
 unfolding IsStrictlySortedBy
 rising_all g h a zero c = tt
 rising_all g h a (suc n) zero = h a
@@ -69,7 +70,8 @@ stands_above rows none = record {
       let up : is_above supers c d ≡ true = sym (is_a_is rows c d) ∙ h in
       let led = above_leads supers c d up in
       omega (arith, counted, led_below supers inside d c led.0 (low supers inside c d up) led.1);
-  rising = rising_all above (λ k. IsStrictlySortedBy-filter nat_cmp (is_above supers k) (range_with_len 0 (length supers)) (rising_range 0 (length supers))) 0 (length supers);
+  rising = rising_all above
+      (λ k. IsStrictlySortedBy-filter nat_cmp (is_above supers k) (range_with_len 0 (length supers)) (rising_range 0 (length supers))) 0 (length supers);
 }
   where
     supers : List (List ℕ)

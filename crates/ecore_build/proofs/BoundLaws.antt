@@ -1,5 +1,6 @@
 -- Kinds agree with bounds, and bounds are in order, where a document has no fault.
-use Rattle.std.proofs.Common.{◌≡◌, ℕ, ℤ, zero, suc, pos, negsuc, ◌≤◌, min, Bool, true, false, cond, not, ◌||◌, ◌&&◌, List, [], ◌∷◌, nat_eq, refl, sym, ap, subst, arith, map, rules}
+use Rattle.std.proofs.Common.{◌≡◌, ℕ, ℤ, zero, suc, pos, negsuc, ◌≤◌, min, Bool, true, false, cond, not, ◌||◌, ◌&&◌, List, [], ◌∷◌, nat_eq, refl, sym}
+use Rattle.std.proofs.Common.{ap, subst, arith, map, rules}
 use Rattle.std.specs.Prelude.{Option, None, Some, int_lt, nat_lt, slice_get}
 use Rattle.std.specs.List.{list_any}
 use Rattle.std.specs.Ordering.{int_eq}
@@ -51,8 +52,10 @@ refused false b h k = cc
 ordered : (l u : ℤ) → int_lt l (pos 0) ≡ false → not (int_eq u (negsuc 0)) && (int_lt u (pos 1) || int_lt u l) ≡ false → IsAbove (natural l) (upper_in u)
 ordered (negsuc m) u h k = cc
 ordered (pos m) (negsuc zero) h k = tt
-ordered (pos m) (negsuc (suc n)) h k = absurd (refused (int_eq (negsuc (suc n)) (negsuc 0)) (int_lt (negsuc (suc n)) (pos m)) (not_same (negsuc (suc n)) (negsuc 0) (λ e. cc)) k)
-ordered (pos m) (pos n) h k = let parts = or_parts (nat_lt n 1) (nat_lt n m) k in in_order m n greatest_bound (omega arith) (not_less m n parts.1) (not_less 1 n parts.0)
+ordered (pos m) (negsuc (suc n)) h k =
+    absurd (refused (int_eq (negsuc (suc n)) (negsuc 0)) (int_lt (negsuc (suc n)) (pos m)) (not_same (negsuc (suc n)) (negsuc 0) (λ e. cc)) k)
+ordered (pos m) (pos n) h k = let parts = or_parts (nat_lt n 1) (nat_lt n m) k
+    in in_order m n greatest_bound (omega arith) (not_less m n parts.1) (not_less 1 n parts.0)
 
 one_upper : (u : ℤ) → int_eq u (pos 1) ≡ true → upper_in u ≡ Some 1
 one_upper u h = subst (λ z. upper_in z ≡ Some 1) (sym ((Decides-int_eq u (pos 1)).0 h)) refl
@@ -82,12 +85,14 @@ plain_agrees : (e : Bool) (c n : ℕ) (o : Option ℕ) → agrees (cond e (Free 
 plain_agrees true c n o = refl
 plain_agrees false c n o = refl
 
-container_agrees : (ds : List Draft) (c : ℕ) (e : End) (upper : Option ℕ) → contains_back ds e ≡ true → is_one upper ≡ true → agrees (container c e) upper ≡ true
+container_agrees : (ds : List Draft) (c : ℕ) (e : End) (upper : Option ℕ) → contains_back ds e ≡ true → is_one upper ≡ true
+    → agrees (container c e) upper ≡ true
 container_agrees ds c Open upper h one = cc
 container_agrees ds c Nowhere upper h one = cc
 container_agrees ds c (At g) upper h one = one
 
-attribute_agrees : (b u : Bool) (s : Scalar) (v : Option Value) (upper : Option ℕ) → (b ≡ true → is_one upper ≡ true) → (b ≡ false → not (is_one upper) ≡ true) → agrees (cond b (Attr s v) (AttrMany s u)) upper ≡ true
+attribute_agrees : (b u : Bool) (s : Scalar) (v : Option Value) (upper : Option ℕ) → (b ≡ true → is_one upper ≡ true)
+    → (b ≡ false → not (is_one upper) ≡ true) → agrees (cond b (Attr s v) (AttrMany s u)) upper ≡ true
 attribute_agrees true u s v upper one many = one refl
 attribute_agrees false u s v upper one many = many refl
 
@@ -110,12 +115,14 @@ module _ (ds : List Draft) (d : Draft) where
   reference_agrees : (c : ℕ) → bad_bounds ds d ≡ false → agrees (reference ds d c) (upper_in d.upper) ≡ true
   reference_agrees c h = by_tests d.containment (contains_back ds d.end) refl
     where
-      by_tests : (k b : Bool) → contains_back ds d.end ≡ b → agrees (cond k (Contains c (end_number d.end)) (cond b (container c d.end) (plain d c))) (upper_in d.upper) ≡ true
+      by_tests : (k b : Bool) → contains_back ds d.end ≡ b
+          → agrees (cond k (Contains c (end_number d.end)) (cond b (container c d.end) (plain d c))) (upper_in d.upper) ≡ true
       by_tests true b is = refl
       by_tests false true is = container_agrees ds c d.end (upper_in d.upper) is (single h is)
       by_tests false false is = plain_agrees (int_eq d.upper (negsuc 0)) c (natural d.upper) (end_number d.end)
 
-  kind_agrees : (enums : List Enum) (t : Target) → is_unsupported t ≡ false → is_missing t ≡ false → not (is_skipped t) && bad_bounds ds d ≡ false → agrees (kind_in enums ds d t) (cond (is_skipped t) (Some 1) (upper_in d.upper)) ≡ true
+  kind_agrees : (enums : List Enum) (t : Target) → is_unsupported t ≡ false → is_missing t ≡ false → not (is_skipped t) && bad_bounds ds d ≡ false
+      → agrees (kind_in enums ds d t) (cond (is_skipped t) (Some 1) (upper_in d.upper)) ≡ true
   kind_agrees enums Skipped read there h = refl
   kind_agrees enums Unsupported read there h = cc
   kind_agrees enums Missing read there h = cc
@@ -124,7 +131,8 @@ module _ (ds : List Draft) (d : Draft) where
       attribute_agrees (int_eq d.upper (pos 1)) d.unique s (default_in enums s d.default_text) (upper_in d.upper)
       (λ e. ap is_one (one_upper d.upper e)) (many_upper d.upper)
 
-  bounds_in_order : (t : Target) → not (is_skipped t) && bad_bounds ds d ≡ false → IsAbove (cond (is_skipped t) 0 (natural d.lower)) (cond (is_skipped t) (Some 1) (upper_in d.upper))
+  bounds_in_order : (t : Target) → not (is_skipped t) && bad_bounds ds d ≡ false
+      → IsAbove (cond (is_skipped t) 0 (natural d.lower)) (cond (is_skipped t) (Some 1) (upper_in d.upper))
   bounds_in_order Skipped h = (omega arith, omega arith)
   bounds_in_order Unsupported h = unrefused h
   bounds_in_order Missing h = unrefused h
@@ -133,7 +141,8 @@ module _ (ds : List Draft) (d : Draft) where
 
 -- ---- the features of a metamodel
 -- a feature is that of the draft at its number
-pub drafted : (P : Feature → Type 0) (g : Draft → Feature) (ds : List Draft) → ((f : ℕ) (d : Draft) → slice_get ds f ≡ Some d → P (g d)) → (f : ℕ) (x : Feature) → slice_get (map g ds) f ≡ Some x → P x
+pub drafted : (P : Feature → Type 0) (g : Draft → Feature) (ds : List Draft) → ((f : ℕ) (d : Draft) → slice_get ds f ≡ Some d → P (g d))
+    → (f : ℕ) (x : Feature) → slice_get (map g ds) f ≡ Some x → P x
 drafted P g ds each f x is = by_draft ds f (λ d at. each f d at) is
   where
     same_some : (x y : Feature) → Some x ≡ Some y → x ≡ y
@@ -157,5 +166,6 @@ bounded rows none =
           (fails_at (λ (d : Draft). is_unsupported d.target) ds tests.read f d is)
           (fails_at (λ (d : Draft). is_missing d.target) ds typed.1 f d is)
           (fails_at (bad_bound ds) ds tests.bounded f d is));
-      order = drafted (λ (x : Feature). IsAbove x.lower x.upper) (feature_from enums ds) ds (λ f d is. bounds_in_order ds d d.target (fails_at (bad_bound ds) ds tests.bounded f d is));
+      order = drafted (λ (x : Feature). IsAbove x.lower x.upper) (feature_from enums ds) ds
+          (λ f d is. bounds_in_order ds d d.target (fails_at (bad_bound ds) ds tests.bounded f d is));
     }

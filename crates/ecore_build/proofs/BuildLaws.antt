@@ -1,5 +1,6 @@
 -- What the parts of a document are, by number.
-use Rattle.std.proofs.Common.{◌≡◌, ℕ, zero, suc, ◌+◌, ◌<◌, ◌≤◌, Bool, true, false, List, [], ◌∷◌, ◌++◌, refl, sym, ap, subst, ◌∙◌, arith, length, length-append, map, take, nat_eq, cond, ◌||◌}
+use Rattle.std.proofs.Common.{◌≡◌, ℕ, zero, suc, ◌+◌, ◌<◌, ◌≤◌, Bool, true, false, List, [], ◌∷◌, ◌++◌, refl, sym, ap, subst, ◌∙◌, arith, length}
+use Rattle.std.proofs.Common.{length-append, map, take, nat_eq, cond, ◌||◌}
 use Rattle.std.specs.Prelude.{Option, None, Some, ◌^◌}
 use Rattle.std.specs.List.{AllByRecursion, list_any, cons_option, enumerate_from, filter, filter_map, flat_map, range_with_len}
 use Rattle.std.specs.BTreeSet.{BTreeSet}
@@ -11,7 +12,8 @@ use Rattle.ecore_drafts.specs.Drafts.{draft, drafts}
 use Rattle.ecore_build.specs.Faults.{own_of, inherited, all_inherited, enum_from, literal, enums_in}
 use Rattle.ecore_build.specs.Faults.{IsFault, first_true}
 use Rattle.ecore_build.specs.declared.fault.MetaFault.{MetaFault}
-use Rattle.ecore_build.specs.declared.fault.MetaFault.TheVariants.{DupName, Unsupported, NoType, SuperCycle, Clash, SelfOpposite, BadOpposite, BadBound, BadDefault, Memory}
+use Rattle.ecore_build.specs.declared.fault.MetaFault.TheVariants.{DupName, Unsupported, NoType, SuperCycle, Clash, SelfOpposite, BadOpposite}
+use Rattle.ecore_build.specs.declared.fault.MetaFault.TheVariants.{BadBound, BadDefault, Memory}
 use Rattle.ecore_build.specs.Build.{class_from}
 use Rattle.ecore_drafts.specs.Counts.{AreFew}
 use Rattle.ecore_drafts.specs.Supers.{Inside, is_above, supers_of, all_above}
@@ -37,7 +39,8 @@ take_whole (x ∷ xs) zero h = absurd (omega arith)
 take_whole (x ∷ xs) (suc i) h = ap (λ ys. x ∷ ys) (take_whole xs i (omega arith))
 
 -- the features of every class, by the classes above each
-pub features_is : (sets : List (BTreeSet ℕ)) (i : ℕ) (own supers : List (List ℕ)) → length sets ≤ i → {all : List (List ℕ)} → all ≡ map (λ s. flat_map (own_of own) s.keys) (take i sets) → map (λ s. s.keys) sets ≡ all_above supers → all ≡ all_inherited supers own
+pub features_is : (sets : List (BTreeSet ℕ)) (i : ℕ) (own supers : List (List ℕ)) → length sets ≤ i → {all : List (List ℕ)}
+    → all ≡ map (λ s. flat_map (own_of own) s.keys) (take i sets) → map (λ s. s.keys) sets ≡ all_above supers → all ≡ all_inherited supers own
 unfolding inherited
 features_is sets i own supers done is rising =
     is ∙ ap (map (λ s. flat_map (own_of own) s.keys)) (take_whole sets i done)
@@ -49,7 +52,12 @@ pub number_below : (all : ClassifierRows) (q : Name) (n : ℕ) → class_number 
 unfolding class_number
 number_below all q n h =
     let below = number_of-below q (map (λ (c : ClassRow). c.name) (classes_of all)) n h in
-    omega (arith, below, length-map (classes_of all) (λ (c : ClassRow). c.name), length-map (classes_of all) (λ (c : ClassRow). filter_map (class_number all) c.supers))
+    omega (
+      arith,
+      below,
+      length-map (classes_of all) (λ (c : ClassRow). c.name),
+      length-map (classes_of all) (λ (c : ClassRow). filter_map (class_number all) c.supers),
+    )
 
 -- an enum that isn't empty has a literal
 pub filled_enum : (es : List EnumRow) (e : ℕ) → is_empty_at es e ≡ false → 0 < length (literals_at (map enum_from es) e)
@@ -61,11 +69,14 @@ filled_enum (r ∷ es) zero h = filled r.literals h
     filled (l ∷ ls) h = omega arith
 filled_enum (r ∷ es) (suc e) h = filled_enum es e h
 
-listed_below : (all : ClassifierRows) (b : ℕ) (names : List Name) → list_any (nat_eq b) (filter_map (class_number all) names) ≡ true → b < length (supers_in all all)
+listed_below : (all : ClassifierRows) (b : ℕ) (names : List Name) → list_any (nat_eq b) (filter_map (class_number all) names) ≡ true
+    → b < length (supers_in all all)
 listed_below all b [] h = cc
 listed_below all b (t ∷ names) h = by_number (class_number all t) refl (λ k. listed_below all b names k) h
   where
-    by_number : (o : Option ℕ) → class_number all t ≡ o → (list_any (nat_eq b) (filter_map (class_number all) names) ≡ true → b < length (supers_in all all)) → list_any (nat_eq b) (cons_option o (filter_map (class_number all) names)) ≡ true → b < length (supers_in all all)
+    by_number : (o : Option ℕ) → class_number all t ≡ o
+        → (list_any (nat_eq b) (filter_map (class_number all) names) ≡ true → b < length (supers_in all all))
+        → list_any (nat_eq b) (cons_option o (filter_map (class_number all) names)) ≡ true → b < length (supers_in all all)
     by_number None is more h = more h
     by_number (Some n) is more h = or_split (nat_eq b n) (list_any (nat_eq b) (filter_map (class_number all) names)) h
         (λ e. subst (λ x. x < length (supers_in all all)) (sym (nat_same b n e)) (number_below all t n is))
@@ -90,7 +101,10 @@ supers_few all (Plain t ∷ rows) = let more = supers_few all rows in omega (ari
 
 drafts_count : (all : ClassifierRows) (n : ℕ) (rows : ClassifierRows) → length (drafts_from all n rows) ≡ feature_total rows
 drafts_count all n [] = refl
-drafts_count all n (Class c ∷ rows) = length-append (map (draft all n) c.features) (drafts_from all (suc n) rows) ∙ ap (λ k. k + length (drafts_from all (suc n) rows)) (length-map c.features (draft all n)) ∙ ap (λ k. length c.features + k) (drafts_count all (suc n) rows)
+drafts_count all n (Class c ∷ rows) =
+    length-append (map (draft all n) c.features) (drafts_from all (suc n) rows)
+    ∙ ap (λ k. k + length (drafts_from all (suc n) rows)) (length-map c.features (draft all n))
+    ∙ ap (λ k. length c.features + k) (drafts_count all (suc n) rows)
 drafts_count all n (Enum e ∷ rows) = drafts_count all n rows ∙ omega arith
 drafts_count all n (Plain t ∷ rows) = drafts_count all n rows ∙ omega arith
 
@@ -99,9 +113,11 @@ all_append P [] ys p q = q
 all_append P (x ∷ xs) ys p q = (p.0, all_append P xs ys p.1 q)
 
 -- what holds of the draft of any feature holds of all drafts of a document
-pub all_drafts : (P : Draft → Type 0) (all : ClassifierRows) → ((n : ℕ) (f : FeatureRow) → P (draft all n f)) → (n : ℕ) (rows : ClassifierRows) → AllByRecursion P (drafts_from all n rows)
+pub all_drafts : (P : Draft → Type 0) (all : ClassifierRows) → ((n : ℕ) (f : FeatureRow) → P (draft all n f)) → (n : ℕ) (rows : ClassifierRows)
+    → AllByRecursion P (drafts_from all n rows)
 all_drafts P all each n [] = tt
-all_drafts P all each n (Class c ∷ rows) = all_append P (map (draft all n) c.features) (drafts_from all (suc n) rows) (own c.features) (all_drafts P all each (suc n) rows)
+all_drafts P all each n (Class c ∷ rows) =
+    all_append P (map (draft all n) c.features) (drafts_from all (suc n) rows) (own c.features) (all_drafts P all each (suc n) rows)
   where
     own : (fs : List FeatureRow) → AllByRecursion P (map (draft all n) fs)
     own [] = tt

@@ -25,7 +25,8 @@ use Rattle.ecore_drafts.specs.declared.rows.LiteralRow.{LiteralRow}
 use Rattle.ecore_drafts.specs.declared.rows.MetaRows.{MetaRows}
 
 -- ---- names of classes
-none_named : (q : Name) (n : ℕ) (fs : List (List ℕ)) (rows : ClassifierRows) → list_any (bytes_eq q) (map classifier_name rows) ≡ false → list_any (bytes_eq q) (map (λ (c : ClassOf). c.name) (classes_at n fs rows)) ≡ false
+none_named : (q : Name) (n : ℕ) (fs : List (List ℕ)) (rows : ClassifierRows) → list_any (bytes_eq q) (map classifier_name rows) ≡ false
+    → list_any (bytes_eq q) (map (λ (c : ClassOf). c.name) (classes_at n fs rows)) ≡ false
 none_named q n fs [] h = refl
 none_named q n fs (Class c ∷ rows) h =
     let parts = or_parts (bytes_eq q c.name) (list_any (bytes_eq q) (map classifier_name rows)) h in
@@ -33,19 +34,25 @@ none_named q n fs (Class c ∷ rows) h =
 none_named q n fs (Enum e ∷ rows) h = none_named q n fs rows (or_parts (bytes_eq q e.name) (list_any (bytes_eq q) (map classifier_name rows)) h).1
 none_named q n fs (Plain t ∷ rows) h = none_named q n fs rows (or_parts (bytes_eq q t) (list_any (bytes_eq q) (map classifier_name rows)) h).1
 
-names_apart : (n : ℕ) (fs : List (List ℕ)) (rows : ClassifierRows) → has_repeat (map classifier_name rows) ≡ false → has_repeat (map (λ (c : ClassOf). c.name) (classes_at n fs rows)) ≡ false
+names_apart : (n : ℕ) (fs : List (List ℕ)) (rows : ClassifierRows) → has_repeat (map classifier_name rows) ≡ false
+    → has_repeat (map (λ (c : ClassOf). c.name) (classes_at n fs rows)) ≡ false
 names_apart n fs [] h = refl
 names_apart n fs (Class c ∷ rows) h =
     let parts = or_parts (list_any (bytes_eq c.name) (map classifier_name rows)) (has_repeat (map classifier_name rows)) h in
-    ap (λ b. b || has_repeat (map (λ (c : ClassOf). c.name) (classes_at (n + 1) fs rows))) (none_named c.name (n + 1) fs rows parts.0) ∙ names_apart (n + 1) fs rows parts.1
-names_apart n fs (Enum e ∷ rows) h = names_apart n fs rows (or_parts (list_any (bytes_eq e.name) (map classifier_name rows)) (has_repeat (map classifier_name rows)) h).1
-names_apart n fs (Plain t ∷ rows) h = names_apart n fs rows (or_parts (list_any (bytes_eq t) (map classifier_name rows)) (has_repeat (map classifier_name rows)) h).1
+    ap (λ b. b || has_repeat (map (λ (c : ClassOf). c.name) (classes_at (n + 1) fs rows))) (none_named c.name (n + 1) fs rows parts.0)
+    ∙ names_apart (n + 1) fs rows parts.1
+names_apart n fs (Enum e ∷ rows) h =
+    names_apart n fs rows (or_parts (list_any (bytes_eq e.name) (map classifier_name rows)) (has_repeat (map classifier_name rows)) h).1
+names_apart n fs (Plain t ∷ rows) h =
+    names_apart n fs rows (or_parts (list_any (bytes_eq t) (map classifier_name rows)) (has_repeat (map classifier_name rows)) h).1
 
-no_slashes : (n : ℕ) (fs : List (List ℕ)) (rows : ClassifierRows) → NamesFit rows → (k : ℕ) (class : ClassOf) → slice_get (classes_at n fs rows) k ≡ Some class → has_slash class.name ≡ false
+no_slashes : (n : ℕ) (fs : List (List ℕ)) (rows : ClassifierRows) → NamesFit rows → (k : ℕ) (class : ClassOf)
+    → slice_get (classes_at n fs rows) k ≡ Some class → has_slash class.name ≡ false
 no_slashes n fs [] fit k class is = cc
 no_slashes n fs (Class c ∷ rows) fit zero class is =
     let own : Some (record { name = c.name; is_abstract = c.is_abstract; features = own_of fs n }) ≡ Some class = is in
-    subst (λ (x : ClassOf). has_slash x.name ≡ false) (some_same (record { name = c.name; is_abstract = c.is_abstract; features = own_of fs n }) class own) fit.0
+    subst (λ (x : ClassOf). has_slash x.name ≡ false)
+    (some_same (record { name = c.name; is_abstract = c.is_abstract; features = own_of fs n }) class own) fit.0
   where
     some_same : (x y : ClassOf) → Some x ≡ Some y → x ≡ y
     some_same x y h = cc
@@ -79,16 +86,19 @@ module _ (enums : List EnumOf) (all : List Draft) where
   same_names ds [] = refl
   same_names ds (f ∷ fs) = λ i. same_name ds f i ∷ same_names ds fs i
 
-class_drafts : (P : Draft → Type 0) (Q : FeatureRow → Type 0) (all : ClassifierRows) → ((n : ℕ) (f : FeatureRow) → Q f → P (draft all n f)) → (n : ℕ) (fs : List FeatureRow) → AllByRecursion Q fs → AllByRecursion P (map (draft all n) fs)
+class_drafts : (P : Draft → Type 0) (Q : FeatureRow → Type 0) (all : ClassifierRows) → ((n : ℕ) (f : FeatureRow) → Q f → P (draft all n f))
+    → (n : ℕ) (fs : List FeatureRow) → AllByRecursion Q fs → AllByRecursion P (map (draft all n) fs)
 class_drafts P Q all h n [] q = tt
 class_drafts P Q all h n (f ∷ fs) q = (h n f q.0, class_drafts P Q all h n fs q.1)
 
 -- ---- no draft has the name of a reserved key
-drafts_named : (all : ClassifierRows) (n : ℕ) (rows : ClassifierRows) → NamesFit rows → AllByRecursion (λ (d : Draft). is_taken d.name ≡ false) (drafts_from all n rows)
+drafts_named : (all : ClassifierRows) (n : ℕ) (rows : ClassifierRows) → NamesFit rows
+    → AllByRecursion (λ (d : Draft). is_taken d.name ≡ false) (drafts_from all n rows)
 drafts_named all n [] fit = tt
 drafts_named all n (Class c ∷ rows) fit =
     all_append (λ (d : Draft). is_taken d.name ≡ false) (map (draft all n) c.features) (drafts_from all (suc n) rows)
-    (class_drafts (λ (d : Draft). is_taken d.name ≡ false) (λ (f : FeatureRow). is_taken f.name ≡ false) all (λ n f q. q) n c.features fit.1) (drafts_named all (suc n) rows fit.2)
+    (class_drafts (λ (d : Draft). is_taken d.name ≡ false) (λ (f : FeatureRow). is_taken f.name ≡ false) all (λ n f q. q) n c.features fit.1)
+    (drafts_named all (suc n) rows fit.2)
 drafts_named all n (Enum e ∷ rows) fit = drafts_named all n rows fit
 drafts_named all n (Plain t ∷ rows) fit = drafts_named all n rows fit
 
@@ -119,7 +129,8 @@ names_of : (ls : List LiteralRow) → map (λ l. l.name) (map literal ls) ≡ ma
 names_of [] = refl
 names_of (l ∷ ls) = ap (λ xs. l.name ∷ xs) (names_of ls)
 
-literals_apart : (rows : ClassifierRows) → list_any repeats_within rows ≡ false → (e : ℕ) → has_repeat (map (λ l. l.name) (option_map_or (λ (x : EnumOf). x.literals) (slice_get (enums_in rows) e) [])) ≡ false
+literals_apart : (rows : ClassifierRows) → list_any repeats_within rows ≡ false → (e : ℕ)
+    → has_repeat (map (λ l. l.name) (option_map_or (λ (x : EnumOf). x.literals) (slice_get (enums_in rows) e) [])) ≡ false
 literals_apart [] h e = refl
 literals_apart (Class c ∷ rows) h e = literals_apart rows (or_parts (repeats_within (Class c)) (list_any repeats_within rows) h).1 e
 literals_apart (Plain t ∷ rows) h e = literals_apart rows (or_parts (repeats_within (Plain t)) (list_any repeats_within rows) h).1 e
@@ -129,7 +140,8 @@ literals_apart (Enum r ∷ rows) h zero =
 literals_apart (Enum r ∷ rows) h (suc e) = literals_apart rows (or_parts (repeats_within (Enum r)) (list_any repeats_within rows) h).1 e
 
 -- ---- names of enums
-no_enum : (q : Name) (rows : ClassifierRows) → list_any (bytes_eq q) (map classifier_name rows) ≡ false → list_any (bytes_eq q) (map (λ (x : EnumOf). x.name) (enums_in rows)) ≡ false
+no_enum : (q : Name) (rows : ClassifierRows) → list_any (bytes_eq q) (map classifier_name rows) ≡ false
+    → list_any (bytes_eq q) (map (λ (x : EnumOf). x.name) (enums_in rows)) ≡ false
 no_enum q [] h = refl
 no_enum q (Enum e ∷ rows) h =
     let parts = or_parts (bytes_eq q e.name) (list_any (bytes_eq q) (map classifier_name rows)) h in
@@ -153,15 +165,18 @@ built_named rows none fit =
     let enums = enums_in all in
     let ds = drafts all in
     let tests = passes all none in
-    let named : AllByRecursion (λ (d : Draft). is_taken d.name ≡ false) ds = subst (AllByRecursion (λ (d : Draft). is_taken d.name ≡ false)) (sym (drafts_counted all)) (drafts_named all 0 all fit) in
+    let named : AllByRecursion (λ (d : Draft). is_taken d.name ≡ false) ds =
+    subst (AllByRecursion (λ (d : Draft). is_taken d.name ≡ false)) (sym (drafts_counted all)) (drafts_named all 0 all fit) in
     let single = or_parts (has_repeat (map classifier_name all)) (list_any repeats_within all) tests.named in
     record {
       classes = names_apart 0 (features_of all) all single.0;
       slashes = no_slashes 0 (features_of all) all fit;
       features = λ c.
           ap has_repeat (same_names enums ds ds (option_map_or (λ (x : ClassOf). x.features) (slice_get (classes_from (features_of all) all) c) []))
-          ∙ class_features (λ fs. has_repeat (map (draft_name ds) fs) ≡ false) refl (features_of all) (none_at (λ fs. has_repeat (map (draft_name ds) fs)) (features_of all) refl tests.apart) 0 all c;
-      keys = λ f. ap is_reserved (same_name enums ds ds f) ∙ (or_parts (is_reserved (draft_name ds f)) (bytes_eq (draft_name ds f) (codes "$ref")) (name_free ds named f)).0;
+          ∙ class_features (λ fs. has_repeat (map (draft_name ds) fs) ≡ false) refl (features_of all)
+          (none_at (λ fs. has_repeat (map (draft_name ds) fs)) (features_of all) refl tests.apart) 0 all c;
+      keys = λ f. ap is_reserved (same_name enums ds ds f)
+          ∙ (or_parts (is_reserved (draft_name ds f)) (bytes_eq (draft_name ds f) (codes "$ref")) (name_free ds named f)).0;
       refs = λ f.
           ap (λ t. bytes_eq t (codes "$ref")) (same_name enums ds ds f)
           ∙ (or_parts (is_reserved (draft_name ds f)) (bytes_eq (draft_name ds f) (codes "$ref")) (name_free ds named f)).1;

@@ -17,4 +17,6 @@ chains rows meta is = subst (Chains supers) (sym is) built
 
     built : Chains supers (meta_of rows)
     built c d below =
-        chain_is supers (supers_inside rows.classifiers supers refl) c d (omega (arith, below, classes_supers rows.classifiers 0 (features_of rows.classifiers) rows.classifiers)) (is_a (meta_of rows) c d) (is_a_is rows c d)
+        chain_is supers (supers_inside rows.classifiers supers refl) c d
+        (omega (arith, below, classes_supers rows.classifiers 0 (features_of rows.classifiers) rows.classifiers)) (is_a (meta_of rows) c d)
+        (is_a_is rows c d)

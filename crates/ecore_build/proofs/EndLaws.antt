@@ -50,7 +50,8 @@ as_container false true e c g = refl
 as_container false false true c g = refl
 as_container false false false c g = refl
 
-reference_end : (k b e : Bool) (c : ℕ) (x : End) → end_in (cond k (Contains c (end_number x)) (cond b (container c x) (cond e (Free c (end_number x)) (Bounded c (end_number x))))) ≡ end_number x
+reference_end : (k b e : Bool) (c : ℕ) (x : End)
+    → end_in (cond k (Contains c (end_number x)) (cond b (container c x) (cond e (Free c (end_number x)) (Bounded c (end_number x))))) ≡ end_number x
 reference_end true b e c x = refl
 reference_end false true e c Open = refl
 reference_end false true e c Nowhere = refl
@@ -80,13 +81,20 @@ module _ (enums : List Enum) (ds : List Draft) (d : Draft) where
       by_target Skipped is h = cc
       by_target Unsupported is h = cc
       by_target Missing is h = cc
-      by_target (Elements c) is h = (c, record { ends = end_is d.end g (sym (reference_end d.containment (contains_back ds d.end) (int_eq d.upper (negsuc 0)) c d.end) ∙ h); goes = is })
+      by_target (Elements c) is h = (
+        c,
+        record {
+          ends = end_is d.end g (sym (reference_end d.containment (contains_back ds d.end) (int_eq d.upper (negsuc 0)) c d.end) ∙ h);
+          goes = is;
+        },
+      )
       by_target (Values s) is h = absurd (no_end (int_eq d.upper (pos 1)) d.unique s _ g h)
 
   ended_kind : (g c : ℕ) → Ended d g c → kind_in enums ds d d.target ≡ kind_as d.containment (contains_back ds (At g)) (int_eq d.upper (negsuc 0)) c g
   ended_kind g c p =
       ap (kind_in enums ds d) p.goes
-      ∙ ap (λ x. cond d.containment (Contains c (end_number x)) (cond (contains_back ds x) (container c x) (cond (int_eq d.upper (negsuc 0)) (Free c (end_number x)) (Bounded c (end_number x))))) p.ends
+      ∙ ap (λ x. cond d.containment (Contains c (end_number x))
+      (cond (contains_back ds x) (container c x) (cond (int_eq d.upper (negsuc 0)) (Free c (end_number x)) (Bounded c (end_number x))))) p.ends
 
 -- a reference and its opposite, of which at most one is a containment
 record Answered (ds : List Draft) (f : ℕ) (d : Draft) (g : ℕ) (other : Draft) : Type 0 where
@@ -99,8 +107,10 @@ not_true : (b : Bool) → not b ≡ true → b ≡ false
 not_true true h = cc
 not_true false h = refl
 
-answered : (ds : List Draft) → any_from (is_unanswered ds) 0 ds ≡ false → (f : ℕ) (d : Draft) → slice_get ds f ≡ Some d → (g c : ℕ) → Ended d g c → (other : Draft) × Answered ds f d g other
-answered ds none f d is g c p = by_other (slice_get ds g) refl (not_false _ (subst (λ e. bad_end ds f d e ≡ false) p.ends (none_at (is_unanswered ds) ds none f d is)))
+answered : (ds : List Draft) → any_from (is_unanswered ds) 0 ds ≡ false → (f : ℕ) (d : Draft) → slice_get ds f ≡ Some d → (g c : ℕ) → Ended d g c
+    → (other : Draft) × Answered ds f d g other
+answered ds none f d is g c p =
+    by_other (slice_get ds g) refl (not_false _ (subst (λ e. bad_end ds f d e ≡ false) p.ends (none_at (is_unanswered ds) ds none f d is)))
   where
     by_other : (o : Option Draft) → slice_get ds g ≡ o → answers f d o ≡ true → (other : Draft) × Answered ds f d g other
     by_other None at h = cc
@@ -136,27 +146,34 @@ module _ (rows : MetaRows) (none : fault rows.classifiers ≡ None) where
   enums = enums_in rows.classifiers
 
   -- what an opposite shows
-  opposed : (P : Type 0) (f g : ℕ) → end_in (kind_of (meta_of rows) f) ≡ Some g → ((d other : Draft) → slice_get ds f ≡ Some d → Answered ds f d g other → P) → P
+  opposed : (P : Type 0) (f g : ℕ) → end_in (kind_of (meta_of rows) f) ≡ Some g
+      → ((d other : Draft) → slice_get ds f ≡ Some d → Answered ds f d g other → P) → P
   opposed P f g h more = by_draft (slice_get ds f) refl
     where
       by_draft : (o : Option Draft) → slice_get ds f ≡ o → P
       by_draft None is =
-          let e : None ≡ Some g = ap end_in (sym (got_of (λ (x : Feature). x.kind) (feature_from enums ds) ds f ∙ ap (λ o. option_map_or (λ (x : Draft). kind_in enums ds x x.target) o Skip) is)) ∙ h in cc
+          let e : None ≡ Some g =
+          ap end_in (sym (got_of (λ (x : Feature). x.kind) (feature_from enums ds) ds f
+          ∙ ap (λ o. option_map_or (λ (x : Draft). kind_in enums ds x x.target) o Skip) is)) ∙ h in cc
       by_draft (Some d) is =
           let p = ended enums ds d g (ap end_in (sym (kind_at rows none f d is)) ∙ h) in
           let a = answered ds (all_answer rows none) f d is g p.0 p.1 in
           more d a.0 is a.1
 
-  kind_here : (f g : ℕ) (d other : Draft) → slice_get ds f ≡ Some d → Answered ds f d g other → kind_of (meta_of rows) f ≡ kind_as d.containment (contains_back ds (At g)) (int_eq d.upper (negsuc 0)) other.owner g
+  kind_here : (f g : ℕ) (d other : Draft) → slice_get ds f ≡ Some d → Answered ds f d g other
+      → kind_of (meta_of rows) f ≡ kind_as d.containment (contains_back ds (At g)) (int_eq d.upper (negsuc 0)) other.owner g
   kind_here f g d other is a = kind_at rows none f d is ∙ ended_kind enums ds d g other.owner a.here
 
-  kind_back : (f g : ℕ) (d other : Draft) → Answered ds f d g other → kind_of (meta_of rows) g ≡ kind_as other.containment (contains_back ds (At f)) (int_eq other.upper (negsuc 0)) d.owner f
+  kind_back : (f g : ℕ) (d other : Draft) → Answered ds f d g other
+      → kind_of (meta_of rows) g ≡ kind_as other.containment (contains_back ds (At f)) (int_eq other.upper (negsuc 0)) d.owner f
   kind_back f g d other a = kind_at rows none g other a.there ∙ ended_kind enums ds other f d.owner a.back
 
   pub ends_meet : EndsMeet (meta_of rows)
   ends_meet = record {
-    other = λ f g h. opposed (nat_eq f g ≡ false) f g h (λ d other is a. subst (λ e. is_at f e ≡ false) a.here.ends (none_at is_self ds (no_self rows none) f d is));
-    both = λ f g h. opposed (end_in (kind_of (meta_of rows) g) ≡ Some f) f g h (λ d other is a. ap end_in (kind_back f g d other a) ∙ as_end other.containment _ _ d.owner f);
+    other = λ f g h. opposed (nat_eq f g ≡ false) f g h
+        (λ d other is a. subst (λ e. is_at f e ≡ false) a.here.ends (none_at is_self ds (no_self rows none) f d is));
+    both = λ f g h. opposed (end_in (kind_of (meta_of rows) g) ≡ Some f) f g h
+        (λ d other is a. ap end_in (kind_back f g d other a) ∙ as_end other.containment _ _ d.owner f);
     goes = λ f g h.
         opposed (target_in (kind_of (meta_of rows) f) ≡ owner_of (meta_of rows) g) f g h
         (λ d other is a.

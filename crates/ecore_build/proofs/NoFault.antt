@@ -3,9 +3,11 @@ use Rattle.std.proofs.Common.{◌≡◌, ℕ, zero, suc, Bool, true, false, List
 use Rattle.std.specs.Prelude.{Option, None, Some, slice_get}
 use Rattle.std.specs.List.{AllByRecursion, list_any}
 use Rattle.std.proofs.lemmas.Bool.{or_parts}
-use Rattle.ecore_build.specs.Faults.{any_from, bad_bound, bad_default, clash, dup_name, enums_in, fault, features_of, is_self, is_unanswered, no_type, unsupported}
+use Rattle.ecore_build.specs.Faults.{any_from, bad_bound, bad_default, clash, dup_name, enums_in, fault, features_of, is_self, is_unanswered, no_type}
+use Rattle.ecore_build.specs.Faults.{unsupported}
 use Rattle.ecore_build.specs.declared.fault.MetaFault.{MetaFault}
-use Rattle.ecore_build.specs.declared.fault.MetaFault.TheVariants.{BadBound, BadDefault, BadOpposite, Clash, DupName, NoType, SelfOpposite, SuperCycle, Unsupported}
+use Rattle.ecore_build.specs.declared.fault.MetaFault.TheVariants.{BadBound, BadDefault, BadOpposite, Clash, DupName, NoType, SelfOpposite}
+use Rattle.ecore_build.specs.declared.fault.MetaFault.TheVariants.{SuperCycle, Unsupported}
 use Rattle.ecore_drafts.specs.Document.{ClassifierRows, supers_in}
 use Rattle.ecore_drafts.specs.Drafts.{drafts}
 use Rattle.ecore_drafts.specs.Supers.{super_cycle}

@@ -1,5 +1,6 @@
 -- A class has a feature exactly where the class that declares it is that class or above it.
-use Rattle.std.proofs.Common.{length-append, ◌≡◌, ℕ, zero, suc, ◌+◌, ◌<◌, ◌≤◌, Bool, true, false, cond, List, [], ◌∷◌, ◌++◌, ◌⊎◌, inl, inr, refl, sym, ap, subst, ◌∙◌, arith, length, map, nat_eq}
+use Rattle.std.proofs.Common.{length-append, ◌≡◌, ℕ, zero, suc, ◌+◌, ◌<◌, ◌≤◌, Bool, true, false, cond, List, [], ◌∷◌, ◌++◌, ◌⊎◌, inl, inr, refl, sym}
+use Rattle.std.proofs.Common.{ap, subst, ◌∙◌, arith, length, map, nat_eq}
 use Rattle.std.specs.Prelude.{Option, None, Some, slice_get}
 use Rattle.std.specs.List.{list_any, filter, flat_map, range_with_len}
 use Rattle.std.specs.Option.{option_map_or}
@@ -48,7 +49,8 @@ ranged g a (suc n) (suc c) h = ranged g (a + 1) n c (omega arith) ∙ ap g (shif
     shift : (a c : ℕ) → a + 1 + c ≡ a + suc c
     shift a c = omega arith
 
-got_test : {X Y : Type 0} (h : Y → Bool) (g : X → Y) (xs : List X) (k : ℕ) → option_map_or h (slice_get (map g xs) k) false ≡ option_map_or (λ x. h (g x)) (slice_get xs k) false
+got_test : {X Y : Type 0} (h : Y → Bool) (g : X → Y) (xs : List X) (k : ℕ)
+    → option_map_or h (slice_get (map g xs) k) false ≡ option_map_or (λ x. h (g x)) (slice_get xs k) false
 got_test h g [] k = refl
 got_test h g (x ∷ xs) zero = refl
 got_test h g (x ∷ xs) (suc k) = got_test h g xs k
@@ -70,7 +72,9 @@ kept_all test b (suc m) f h = by_answer b h (λ d more. kept_all test d m (f + 1
     shift : (f k : ℕ) → f + 1 + k ≡ f + suc k
     shift f k = omega arith
 
-    by_answer : (b : Bool) → ((k : ℕ) → k < suc m → test (f + k) ≡ b) → ((d : Bool) → ((k : ℕ) → k < m → test (f + 1 + k) ≡ d) → filter test (range_with_len (f + 1) m) ≡ cond d (range_with_len (f + 1) m) []) → filter test (range_with_len f (suc m)) ≡ cond b (range_with_len f (suc m)) []
+    by_answer : (b : Bool) → ((k : ℕ) → k < suc m → test (f + k) ≡ b)
+        → ((d : Bool) → ((k : ℕ) → k < m → test (f + 1 + k) ≡ d) → filter test (range_with_len (f + 1) m) ≡ cond d (range_with_len (f + 1) m) [])
+        → filter test (range_with_len f (suc m)) ≡ cond b (range_with_len f (suc m)) []
     by_answer true h on =
         ap (λ t. cond t (f ∷ filter test (range_with_len (f + 1) m)) (filter test (range_with_len (f + 1) m))) (ap test (plus_none f) ∙ h 0 (omega arith))
         ∙ ap (λ xs. f ∷ xs) (on true (λ k less. ap test (shift f k) ∙ h (suc k) (omega arith)))
@@ -86,7 +90,9 @@ range_append f zero n = ap (range_with_len f) (none_more n) ∙ ap (λ k. range_
 
     plus_none : (f : ℕ) → f ≡ f + 0
     plus_none f = omega arith
-range_append f (suc m) n = ap (range_with_len f) (one_more m n) ∙ ap (λ xs. f ∷ xs) (range_append (f + 1) m n ∙ ap (λ k. range_with_len (f + 1) m ++ range_with_len k n) (shift f m))
+range_append f (suc m) n =
+    ap (range_with_len f) (one_more m n)
+    ∙ ap (λ xs. f ∷ xs) (range_append (f + 1) m n ∙ ap (λ k. range_with_len (f + 1) m ++ range_with_len k n) (shift f m))
   where
     one_more : (m n : ℕ) → suc m + n ≡ suc (m + n)
     one_more m n = omega arith
@@ -99,13 +105,17 @@ flat_first g true n xs = refl
 flat_first g false n xs = refl
 
 -- a feature of the first class has that class as its owner
-own_draft : (all : ClassifierRows) (n : ℕ) (fs : List FeatureRow) (rest : List Draft) (k : ℕ) → k < length fs → (d : Draft) × (slice_get (map (draft all n) fs ++ rest) k ≡ Some d) × (d.owner ≡ n)
+own_draft : (all : ClassifierRows) (n : ℕ) (fs : List FeatureRow) (rest : List Draft) (k : ℕ) → k < length fs
+    → (d : Draft) × (slice_get (map (draft all n) fs ++ rest) k ≡ Some d) × (d.owner ≡ n)
 own_draft all n [] rest k h = absurd (omega arith)
 own_draft all n (x ∷ fs) rest zero h = (draft all n x, refl, refl)
 own_draft all n (x ∷ fs) rest (suc k) h = own_draft all n fs rest k (omega arith)
 
 -- what the classes that pass declare, class by class, is by number what a class that passes declares
-gathered_is : (all : ClassifierRows) (P : ℕ → Bool) (g : ℕ → List ℕ) (test : ℕ → Bool) (n f : ℕ) (rows : ClassifierRows) → ((b : ℕ) → g (n + b) ≡ own_of (own_features_from f rows) b) → ((k : ℕ) (d : Draft) → slice_get (drafts_from all n rows) k ≡ Some d → test (f + k) ≡ P d.owner) → flat_map g (filter P (range_with_len n (length (supers_in all rows)))) ≡ filter test (range_with_len f (length (drafts_from all n rows)))
+gathered_is : (all : ClassifierRows) (P : ℕ → Bool) (g : ℕ → List ℕ) (test : ℕ → Bool) (n f : ℕ) (rows : ClassifierRows)
+    → ((b : ℕ) → g (n + b) ≡ own_of (own_features_from f rows) b)
+    → ((k : ℕ) (d : Draft) → slice_get (drafts_from all n rows) k ≡ Some d → test (f + k) ≡ P d.owner)
+    → flat_map g (filter P (range_with_len n (length (supers_in all rows)))) ≡ filter test (range_with_len f (length (drafts_from all n rows)))
 gathered_is all P g test n f [] h t = refl
 gathered_is all P g test n f (Class c ∷ rows) h t =
     flat_first g (P n) n (filter P (range_with_len (n + 1) (length (supers_in all rows))))
@@ -114,7 +124,8 @@ gathered_is all P g test n f (Class c ∷ rows) h t =
     (ap (λ k. flat_map g (filter P (range_with_len k (length (supers_in all rows))))) (plus_one n)
     ∙ gathered_is all P g test (suc n) (f + length c.features) rows
     (λ b. ap g (one_more n b) ∙ h (suc b))
-    (λ k d is. ap test (joined f (length c.features) k) ∙ t (length c.features + k) d (get_right own later (length c.features + k) k (omega (arith, long)) ∙ is)))
+    (λ k d is. ap test (joined f (length c.features) k)
+    ∙ t (length c.features + k) d (get_right own later (length c.features + k) k (omega (arith, long)) ∙ is)))
     ∙ ap (λ ys. ys ++ filter test (range_with_len (f + length c.features) (length later)))
     (sym (kept_all test (P n) (length c.features) f (λ k less. let at = own_draft all n c.features later k less in t k at.0 at.1 ∙ ap P at.2)))
     ∙ sym (filter-append test (range_with_len f (length c.features)) (range_with_len (f + length c.features) (length later)))
@@ -163,11 +174,14 @@ class_is all c =
     none_more : (n : ℕ) → 0 + n ≡ n
     none_more n = omega arith
 
-owner_low : (all : ClassifierRows) (n : ℕ) (rows : ClassifierRows) (k : ℕ) (d : Draft) → slice_get (drafts_from all n rows) k ≡ Some d → d.owner < n + length (supers_in all rows)
+owner_low : (all : ClassifierRows) (n : ℕ) (rows : ClassifierRows) (k : ℕ) (d : Draft) → slice_get (drafts_from all n rows) k ≡ Some d
+    → d.owner < n + length (supers_in all rows)
 owner_low all n [] k d h = cc
 owner_low all n (Class c ∷ rows) k d h = part (λ j. owner_low all (suc n) rows j d) c.features k h
   where
-    part : ((j : ℕ) → slice_get (drafts_from all (suc n) rows) j ≡ Some d → d.owner < suc n + length (supers_in all rows)) → (fs : List FeatureRow) (k : ℕ) → slice_get (map (draft all n) fs ++ drafts_from all (suc n) rows) k ≡ Some d → d.owner < n + suc (length (supers_in all rows))
+    part : ((j : ℕ) → slice_get (drafts_from all (suc n) rows) j ≡ Some d → d.owner < suc n + length (supers_in all rows))
+        → (fs : List FeatureRow) (k : ℕ) → slice_get (map (draft all n) fs ++ drafts_from all (suc n) rows) k ≡ Some d
+        → d.owner < n + suc (length (supers_in all rows))
     part on [] k h = let more = on k h in omega (arith, more)
     part on (x ∷ fs) zero h = owner (draft all n x) d h (omega arith)
       where
@@ -182,14 +196,16 @@ pub owner_below : (all : ClassifierRows) (f : ℕ) (d : Draft) → slice_get (dr
 owner_below all f d is = let low = owner_low all 0 all f d (ap (λ ds. slice_get ds f) (sym (drafts_counted all)) ∙ is) in omega (arith, low)
 
 pub listed_is : (all : ClassifierRows) → all_inherited (supers_in all all) (own_features all) ≡ features_of all
-listed_is all = ap (all_inherited (supers_in all all)) (own_features_counted all) ∙ (λ i. map (λ c. class_is all c i) (range_with_len 0 (length (supers_in all all))))
+listed_is all = ap (all_inherited (supers_in all all)) (own_features_counted all)
+    ∙ (λ i. map (λ c. class_is all c i) (range_with_len 0 (length (supers_in all all))))
 
 -- ---- the features of a class of the metamodel
 filter_none : (p : ℕ → Bool) → ((k : ℕ) → p k ≡ false) → (xs : List ℕ) → filter p xs ≡ []
 filter_none p none [] = refl
 filter_none p none (x ∷ xs) = ap (λ b. cond b (x ∷ filter p xs) (filter p xs)) (none x) ∙ filter_none p none xs
 
-class_listed : (all : ClassifierRows) (n : ℕ) (fs : List (List ℕ)) (rows : ClassifierRows) (c : ℕ) → c < length (supers_in all rows) → option_map_or (λ (class : Made). class.features) (slice_get (classes_at n fs rows) c) [] ≡ own_of fs (n + c)
+class_listed : (all : ClassifierRows) (n : ℕ) (fs : List (List ℕ)) (rows : ClassifierRows) (c : ℕ) → c < length (supers_in all rows)
+    → option_map_or (λ (class : Made). class.features) (slice_get (classes_at n fs rows) c) [] ≡ own_of fs (n + c)
 class_listed all n fs [] c h = absurd (omega arith)
 class_listed all n fs (Class r ∷ rows) zero h = ap (own_of fs) (plus_none n)
   where
@@ -202,7 +218,8 @@ class_listed all n fs (Class r ∷ rows) (suc c) h = class_listed all (n + 1) fs
 class_listed all n fs (Enum e ∷ rows) c h = class_listed all n fs rows c h
 class_listed all n fs (Plain t ∷ rows) c h = class_listed all n fs rows c h
 
-no_class : (all : ClassifierRows) (n : ℕ) (fs : List (List ℕ)) (rows : ClassifierRows) (c : ℕ) → length (supers_in all rows) ≤ c → option_map_or (λ (class : Made). class.features) (slice_get (classes_at n fs rows) c) [] ≡ []
+no_class : (all : ClassifierRows) (n : ℕ) (fs : List (List ℕ)) (rows : ClassifierRows) (c : ℕ) → length (supers_in all rows) ≤ c
+    → option_map_or (λ (class : Made). class.features) (slice_get (classes_at n fs rows) c) [] ≡ []
 no_class all n fs [] c h = refl
 no_class all n fs (Class r ∷ rows) zero h = absurd (omega arith)
 no_class all n fs (Class r ∷ rows) (suc c) h = no_class all (n + 1) fs rows c (omega arith)
@@ -216,7 +233,8 @@ none_declared supers ds c h f = by_draft (slice_get ds f)
     by_draft None = refl
     by_draft (Some d) = above_none supers c d.owner h
 
-class_features_are : (rows : MetaRows) (c : ℕ) → class_features (meta_of rows) c ≡ features_in (supers_in rows.classifiers rows.classifiers) (drafts rows.classifiers) c
+class_features_are : (rows : MetaRows) (c : ℕ)
+    → class_features (meta_of rows) c ≡ features_in (supers_in rows.classifiers rows.classifiers) (drafts rows.classifiers) c
 class_features_are rows c = by_place (split c (length supers))
   where
     all : ClassifierRows
@@ -232,7 +250,8 @@ class_features_are rows c = by_place (split c (length supers))
     by_place (inl lt) =
         class_listed all 0 (features_of all) all c lt ∙ ap (own_of (features_of all)) (sym (none_less c))
         ∙ ranged (features_in supers (drafts all)) 0 (length supers) c lt ∙ ap (features_in supers (drafts all)) (sym (none_less c))
-    by_place (inr le) = no_class all 0 (features_of all) all c le ∙ sym (filter_none (is_declared supers (drafts all) c) (none_declared supers (drafts all) c le) (range_with_len 0 (length (drafts all))))
+    by_place (inr le) = no_class all 0 (features_of all) all c le
+        ∙ sym (filter_none (is_declared supers (drafts all) c) (none_declared supers (drafts all) c le) (range_with_len 0 (length (drafts all))))
 
 -- a class of the metamodel is another exactly where it is that class or below it
 pub is_a_is : (rows : MetaRows) (c d : ℕ) → is_a (meta_of rows) c d ≡ is_above (supers_in rows.classifiers rows.classifiers) c d
@@ -252,13 +271,16 @@ lists_declared rows c =
     g = feature_from (enums_in rows.classifiers) ds
 
 has_any : (meta : Meta) (c f : ℕ) → has_feature meta c f ≡ list_any (nat_eq f) (class_features meta c)
-has_any meta c f = elim (slice_get meta.classes c) as (λ x. option_map_or (λ (class : Made). list_any (nat_eq f) class.features) x false ≡ list_any (nat_eq f) (option_map_or (λ (class : Made). class.features) x [])) [
-  | None ↦ refl
-  | Some k ↦ refl
-]
+has_any meta c f = elim (slice_get meta.classes c) as (λ x.
+    option_map_or (λ (class : Made). list_any (nat_eq f) class.features) x false ≡ list_any (nat_eq f)
+    (option_map_or (λ (class : Made). class.features) x [])) [
+      | None ↦ refl
+      | Some k ↦ refl
+    ]
 
 -- a class has a feature exactly where the class that declares it is that class or above it
-pub has_is : (rows : MetaRows) (c f : ℕ) (d : Draft) → slice_get (drafts rows.classifiers) f ≡ Some d → has_feature (meta_of rows) c f ≡ is_a (meta_of rows) c d.owner
+pub has_is : (rows : MetaRows) (c f : ℕ) (d : Draft) → slice_get (drafts rows.classifiers) f ≡ Some d
+    → has_feature (meta_of rows) c f ≡ is_a (meta_of rows) c d.owner
 has_is rows c f d is =
     let supers = supers_in rows.classifiers rows.classifiers in
     let ds = drafts rows.classifiers in

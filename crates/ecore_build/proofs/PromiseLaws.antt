@@ -34,11 +34,14 @@ promised rows none fit = record {
 }
 
 -- a metamodel by its parts
-pub built_is : (rows : MetaRows) (meta : Meta) → meta.uri ≡ rows.uri → meta.classes ≡ classes_from (features_of rows.classifiers) rows.classifiers → meta.features ≡ map (feature_from (enums_in rows.classifiers) (drafts rows.classifiers)) (drafts rows.classifiers) → meta.above ≡ all_above (supers_in rows.classifiers rows.classifiers) → meta.enums ≡ enums_in rows.classifiers → meta ≡ meta_of rows
+pub built_is : (rows : MetaRows) (meta : Meta) → meta.uri ≡ rows.uri → meta.classes ≡ classes_from (features_of rows.classifiers) rows.classifiers
+    → meta.features ≡ map (feature_from (enums_in rows.classifiers) (drafts rows.classifiers)) (drafts rows.classifiers)
+    → meta.above ≡ all_above (supers_in rows.classifiers rows.classifiers) → meta.enums ≡ enums_in rows.classifiers → meta ≡ meta_of rows
 built_is rows meta u c f s e = λ i. record { uri = u i; classes = c i; above = s i; features = f i; enums = e i }
 
 -- a metamodel that is what a document without a fault stands for
-pub holds_of : (rows : MetaRows) → Numbered rows.classifiers → fault rows.classifiers ≡ None → NamesFit rows.classifiers → (meta : Meta) → meta ≡ meta_of rows → Holds meta
+pub holds_of : (rows : MetaRows) → Numbered rows.classifiers → fault rows.classifiers ≡ None → NamesFit rows.classifiers → (meta : Meta)
+    → meta ≡ meta_of rows → Holds meta
 holds_of rows few none fit meta is = subst Holds (sym is) all
   where
     all : Holds (meta_of rows)
@@ -46,6 +49,11 @@ holds_of rows few none fit meta is = subst Holds (sym is) all
       few_classes =
           let most = classes_count 0 (features_of rows.classifiers) rows.classifiers in
           omega (arith, most, few.classifiers);
-      few_features = omega (arith, length-map (drafts rows.classifiers) (feature_from (enums_in rows.classifiers) (drafts rows.classifiers)), drafts_few rows.classifiers, few.features);
+      few_features = omega (
+        arith,
+        length-map (drafts rows.classifiers) (feature_from (enums_in rows.classifiers) (drafts rows.classifiers)),
+        drafts_few rows.classifiers,
+        few.features,
+      );
       is = promised rows none fit;
     }

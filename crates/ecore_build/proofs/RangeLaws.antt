@@ -55,9 +55,12 @@ picked P false x y p q = q
 
 known_ecore : (all : ClassifierRows) (t : Name) → Known all (ecore_scalar t)
 known_ecore all t =
-    by_tests (bytes_eq t (codes "EString")) (bytes_eq t (codes "EBoolean")) (bytes_eq t (codes "EByte")) (bytes_eq t (codes "EShort")) (bytes_eq t (codes "EInt")) (bytes_eq t (codes "ELong"))
+    by_tests (bytes_eq t (codes "EString")) (bytes_eq t (codes "EBoolean")) (bytes_eq t (codes "EByte")) (bytes_eq t (codes "EShort"))
+    (bytes_eq t (codes "EInt")) (bytes_eq t (codes "ELong"))
   where
-    by_tests : (a b c d e f : Bool) → Known all (cond a (Values TextType) (cond b (Values FlagType) (cond c (Values Byte) (cond d (Values Short) (cond e (Values Int) (cond f (Values Long) Unsupported))))))
+    by_tests : (a b c d e f : Bool)
+        → Known all (cond a (Values TextType)
+        (cond b (Values FlagType) (cond c (Values Byte) (cond d (Values Short) (cond e (Values Int) (cond f (Values Long) Unsupported))))))
     by_tests true b c d e f = tt
     by_tests false true c d e f = tt
     by_tests false false true d e f = tt
@@ -97,7 +100,8 @@ known all f =
 all_known : (all : ClassifierRows) (k : ℕ) (d : Draft) → slice_get (drafts all) k ≡ Some d → Known all d.target
 all_known all k d is =
     holds_at (λ (d : Draft). Known all d.target) (drafts all)
-    (subst (AllByRecursion (λ (d : Draft). Known all d.target)) (sym (drafts_counted all)) (all_drafts (λ (d : Draft). Known all d.target) all (λ n f. known all f) 0 all)) k d is
+    (subst (AllByRecursion (λ (d : Draft). Known all d.target)) (sym (drafts_counted all))
+    (all_drafts (λ (d : Draft). Known all d.target) all (λ n f. known all f) 0 all)) k d is
 
 -- ---- what a kind shows of its draft's type
 some_same : {X : Type 0} (x y : X) → Some x ≡ Some y → x ≡ y
@@ -125,7 +129,9 @@ module _ (ds : List Draft) (d : Draft) where
   reference_target : (n c : ℕ) → target_in (reference ds d n) ≡ Some c → n ≡ c
   reference_target n c h = by_tests d.containment (contains_back ds d.end) (int_eq d.upper (negsuc 0)) h
     where
-      by_tests : (k b e : Bool) → target_in (cond k (Contains n (end_number d.end)) (cond b (container n d.end) (cond e (Free n (end_number d.end)) (Bounded n (end_number d.end))))) ≡ Some c → n ≡ c
+      by_tests : (k b e : Bool)
+          → target_in (cond k (Contains n (end_number d.end))
+          (cond b (container n d.end) (cond e (Free n (end_number d.end)) (Bounded n (end_number d.end))))) ≡ Some c → n ≡ c
       by_tests true b e h = some_same n c h
       by_tests false true e h = container_target n c d.end h
       by_tests false false true h = some_same n c h
@@ -134,7 +140,9 @@ module _ (ds : List Draft) (d : Draft) where
   reference_scalar : (n : ℕ) → scalar_in (reference ds d n) ≡ None
   reference_scalar n = by_tests d.containment (contains_back ds d.end) (int_eq d.upper (negsuc 0))
     where
-      by_tests : (k b e : Bool) → scalar_in (cond k (Contains n (end_number d.end)) (cond b (container n d.end) (cond e (Free n (end_number d.end)) (Bounded n (end_number d.end))))) ≡ None
+      by_tests : (k b e : Bool)
+          → scalar_in (cond k (Contains n (end_number d.end))
+          (cond b (container n d.end) (cond e (Free n (end_number d.end)) (Bounded n (end_number d.end))))) ≡ None
       by_tests true b e = refl
       by_tests false true e = container_scalar n d.end
       by_tests false false true = refl
@@ -172,7 +180,8 @@ narrowed half (Some n) v h = by_width (in_width half n) refl h
     by_width true is h = (n, value_same v (Whole n) (sym h), is)
     by_width false is h = cc
 
-flag_fits : (b c : Bool) (v : Value) (P : Value → Type 0) → P (Flag true) → P (Flag false) → cond b (Some (Flag true)) (cond c (Some (Flag false)) None) ≡ Some v → P v
+flag_fits : (b c : Bool) (v : Value) (P : Value → Type 0) → P (Flag true) → P (Flag false)
+    → cond b (Some (Flag true)) (cond c (Some (Flag false)) None) ≡ Some v → P v
 flag_fits true c v P p q h = subst P (value_same (Flag true) v h) p
 flag_fits false true v P p q h = subst P (value_same (Flag false) v h) q
 flag_fits false false v P p q h = cc
@@ -196,12 +205,14 @@ literal_below ls text n h =
     placed name k is = let h = number_of-below text (map name ls) k is in omega (arith, h, length-map ls name)
 
 module _ (meta : Meta) where
-  whole_fits : (s : Scalar) → ((n : ℤ) → in_width (half_of s) n ≡ true → fits meta s (Whole n) ≡ true) → (o : Option ℤ) (v : Value) → option_and_then (narrow (half_of s)) o ≡ Some v → fits meta s v ≡ true
+  whole_fits : (s : Scalar) → ((n : ℤ) → in_width (half_of s) n ≡ true → fits meta s (Whole n) ≡ true) → (o : Option ℤ) (v : Value)
+      → option_and_then (narrow (half_of s)) o ≡ Some v → fits meta s v ≡ true
   whole_fits s each o v h =
       let at = narrowed (half_of s) o v h in
       subst (λ v. fits meta s v ≡ true) (sym at.1) (each at.0 at.2)
 
-  named_fits : (e : ℕ) (o : Option ℕ) (v : Value) → ((n : ℕ) → o ≡ Some n → n < literal_count meta e) → option_map (λ n. Literal n) o ≡ Some v → fits meta (LiteralType e) v ≡ true
+  named_fits : (e : ℕ) (o : Option ℕ) (v : Value) → ((n : ℕ) → o ≡ Some n → n < literal_count meta e) → option_map (λ n. Literal n) o ≡ Some v
+      → fits meta (LiteralType e) v ≡ true
   named_fits e None v each h = cc
   named_fits e (Some n) v each h = subst (λ v. fits meta (LiteralType e) v ≡ true) (value_same (Literal n) v h) (is_less n (literal_count meta e) (each n refl))
 
@@ -223,9 +234,11 @@ module _ (meta : Meta) where
   default_fits Short v has h = subst (λ v. fits meta Short v ≡ true) (value_same (Whole (pos 0)) v h) refl
   default_fits Int v has h = subst (λ v. fits meta Int v ≡ true) (value_same (Whole (pos 0)) v h) refl
   default_fits Long v has h = subst (λ v. fits meta Long v ≡ true) (value_same (Whole (pos 0)) v h) refl
-  default_fits (LiteralType e) v has h = subst (λ v. fits meta (LiteralType e) v ≡ true) (value_same (Literal 0) v h) (is_less 0 (literal_count meta e) (has e refl))
+  default_fits (LiteralType e) v has h =
+      subst (λ v. fits meta (LiteralType e) v ≡ true) (value_same (Literal 0) v h) (is_less 0 (literal_count meta e) (has e refl))
 
-  given_fits : (s : Scalar) (text : Option Name) (v : Value) → ((e : ℕ) → s ≡ LiteralType e → 0 < literal_count meta e) → default_in meta.enums s text ≡ Some v → fits meta s v ≡ true
+  given_fits : (s : Scalar) (text : Option Name) (v : Value) → ((e : ℕ) → s ≡ LiteralType e → 0 < literal_count meta e)
+      → default_in meta.enums s text ≡ Some v → fits meta s v ≡ true
   given_fits s None v has h = default_fits s v has h
   given_fits s (Some text) v has h = value_fits s text v h
 
@@ -245,13 +258,16 @@ module _ (rows : MetaRows) (none : fault rows.classifiers ≡ None) where
   each_kind P skip each f = by_draft (slice_get ds f) refl
     where
       by_draft : (o : Option Draft) → slice_get ds f ≡ o → P (kind_of (meta_of rows) f)
-      by_draft None is = subst P (sym (got_of (λ (x : Feature). x.kind) (feature_from enums ds) ds f ∙ ap (λ o. option_map_or (λ (x : Draft). kind_in enums ds x x.target) o Skip) is)) skip
+      by_draft None is = subst P
+          (sym (got_of (λ (x : Feature). x.kind) (feature_from enums ds) ds f
+          ∙ ap (λ o. option_map_or (λ (x : Draft). kind_in enums ds x x.target) o Skip) is)) skip
       by_draft (Some d) is = subst P (sym (kind_at rows none f d is)) (each d (all_known all f d is))
 
   has_literal : (d : Draft) (s : Scalar) → Known all d.target → d.target ≡ Values s → (e : ℕ) → s ≡ LiteralType e → 0 < literal_count (meta_of rows) e
   has_literal d s known is e same = subst (Known all) (is ∙ ap (λ s. Values s) same) known
 
-  default_is : (d : Draft) (s : Scalar) (v : Value) → d.target ≡ Values s → kind_in enums ds d d.target ≡ Attr s (Some v) → default_in enums s d.default_text ≡ Some v
+  default_is : (d : Draft) (s : Scalar) (v : Value) → d.target ≡ Values s → kind_in enums ds d d.target ≡ Attr s (Some v)
+      → default_in enums s d.default_text ≡ Some v
   default_is d s v is h = attribute_default (int_eq d.upper (pos 1)) d.unique s s (default_in enums s d.default_text) v (sym (ap (kind_in enums ds d) is) ∙ h)
 
   pub in_range : IsInRange (meta_of rows)

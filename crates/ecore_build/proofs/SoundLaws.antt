@@ -88,16 +88,20 @@ module _ (enums : List Enum) (ds : List Draft) (d : Draft) where
   paired : (g : ℕ) → opposite_in (kind_in enums ds d d.target) ≡ Some g → (c : ℕ) × Paired ds d g c
   paired g h = by_target d.target refl h
     where
-      by_end : (c : ℕ) → d.target ≡ Elements c → d.containment ≡ false → contains_back ds d.end ≡ false → (e : End) → d.end ≡ e → end_number e ≡ Some g → (c : ℕ) × Paired ds d g c
+      by_end : (c : ℕ) → d.target ≡ Elements c → d.containment ≡ false → contains_back ds d.end ≡ false → (e : End) → d.end ≡ e
+          → end_number e ≡ Some g → (c : ℕ) × Paired ds d g c
       by_end c t k b Open is h = cc
       by_end c t k b Nowhere is h = cc
       by_end c t k b (At n) is h = let same : n ≡ g = cc in (c, record { ends = is ∙ ap (λ x. At x) same; goes = t; holds_none = k; held_by_none = b })
 
-      by_back : (c : ℕ) → d.target ≡ Elements c → d.containment ≡ false → (b : Bool) → contains_back ds d.end ≡ b → opposite_in (cond b (container c d.end) (plain d c)) ≡ Some g → (c : ℕ) × Paired ds d g c
+      by_back : (c : ℕ) → d.target ≡ Elements c → d.containment ≡ false → (b : Bool) → contains_back ds d.end ≡ b
+          → opposite_in (cond b (container c d.end) (plain d c)) ≡ Some g → (c : ℕ) × Paired ds d g c
       by_back c t k true is h = let e : None ≡ Some g = sym (no_plain c d.end) ∙ h in cc
       by_back c t k false is h = by_end c t k is d.end refl (sym (plain_opposite d c) ∙ h)
 
-      by_inside : (c : ℕ) → d.target ≡ Elements c → (b : Bool) → d.containment ≡ b → opposite_in (cond b (Contains c (end_number d.end)) (cond (contains_back ds d.end) (container c d.end) (plain d c))) ≡ Some g → (c : ℕ) × Paired ds d g c
+      by_inside : (c : ℕ) → d.target ≡ Elements c → (b : Bool) → d.containment ≡ b
+          → opposite_in (cond b (Contains c (end_number d.end)) (cond (contains_back ds d.end) (container c d.end) (plain d c))) ≡ Some g
+          → (c : ℕ) × Paired ds d g c
       by_inside c t true is h = cc
       by_inside c t false is h = by_back c t is (contains_back ds d.end) refl h
 
@@ -134,8 +138,10 @@ record Mirrored (ds : List Draft) (f : ℕ) (d : Draft) (g : ℕ) (other : Draft
   pub here : Paired ds d g other.owner
   pub back : Paired ds other f d.owner
 
-mirrored : (ds : List Draft) → any_from (is_unanswered ds) 0 ds ≡ false → (f : ℕ) (d : Draft) → slice_get ds f ≡ Some d → (g c : ℕ) → Paired ds d g c → (other : Draft) × Mirrored ds f d g other
-mirrored ds none f d is g c p = by_other (slice_get ds g) refl (not_false _ (subst (λ e. bad_end ds f d e ≡ false) p.ends (none_at (is_unanswered ds) ds none f d is)))
+mirrored : (ds : List Draft) → any_from (is_unanswered ds) 0 ds ≡ false → (f : ℕ) (d : Draft) → slice_get ds f ≡ Some d → (g c : ℕ) → Paired ds d g c
+    → (other : Draft) × Mirrored ds f d g other
+mirrored ds none f d is g c p =
+    by_other (slice_get ds g) refl (not_false _ (subst (λ e. bad_end ds f d e ≡ false) p.ends (none_at (is_unanswered ds) ds none f d is)))
   where
     by_other : (o : Option Draft) → slice_get ds g ≡ o → answers f d o ≡ true → (other : Draft) × Mirrored ds f d g other
     by_other None at h = cc
@@ -157,7 +163,8 @@ mirrored ds none f d is g c p = by_other (slice_get ds g) refl (not_false _ (sub
           },
         )
 
-pub got_of : {X Y : Type 0} (h : Y → Kind) (g : X → Y) (xs : List X) (k : ℕ) → option_map_or h (slice_get (map g xs) k) Skip ≡ option_map_or (λ x. h (g x)) (slice_get xs k) Skip
+pub got_of : {X Y : Type 0} (h : Y → Kind) (g : X → Y) (xs : List X) (k : ℕ)
+    → option_map_or h (slice_get (map g xs) k) Skip ≡ option_map_or (λ x. h (g x)) (slice_get xs k) Skip
 got_of h g [] k = refl
 got_of h g (x ∷ xs) zero = refl
 got_of h g (x ∷ xs) (suc k) = got_of h g xs k
@@ -176,7 +183,8 @@ module _ (rows : MetaRows) (none : fault rows.classifiers ≡ None) where
   all_answer = (passes rows.classifiers none).answered
 
   pub kind_at : (f : ℕ) (d : Draft) → slice_get ds f ≡ Some d → kind_of (meta_of rows) f ≡ kind_in enums ds d d.target
-  kind_at f d is = got_of (λ (x : Feature). x.kind) (feature_from enums ds) ds f ∙ ap (λ o. option_map_or (λ (x : Draft). kind_in enums ds x x.target) o Skip) is
+  kind_at f d is = got_of (λ (x : Feature). x.kind) (feature_from enums ds) ds f
+      ∙ ap (λ o. option_map_or (λ (x : Draft). kind_in enums ds x x.target) o Skip) is
 
   -- what an opposite shows
   opposed : (P : Type 0) (f g : ℕ) → opposite_of (meta_of rows) f ≡ Some g → ((d other : Draft) → slice_get ds f ≡ Some d → Mirrored ds f d g other → P) → P
@@ -184,7 +192,9 @@ module _ (rows : MetaRows) (none : fault rows.classifiers ≡ None) where
     where
       by_draft : (o : Option Draft) → slice_get ds f ≡ o → P
       by_draft None is =
-          let e : None ≡ Some g = ap opposite_in (sym (got_of (λ (x : Feature). x.kind) (feature_from enums ds) ds f ∙ ap (λ o. option_map_or (λ (x : Draft). kind_in enums ds x x.target) o Skip) is)) ∙ h in cc
+          let e : None ≡ Some g =
+          ap opposite_in (sym (got_of (λ (x : Feature). x.kind) (feature_from enums ds) ds f
+          ∙ ap (λ o. option_map_or (λ (x : Draft). kind_in enums ds x x.target) o Skip) is)) ∙ h in cc
       by_draft (Some d) is =
           let p = paired enums ds d g (ap opposite_in (sym (kind_at f d is)) ∙ h) in
           let m = mirrored ds all_answer f d is g p.0 p.1 in
@@ -195,7 +205,8 @@ module _ (rows : MetaRows) (none : fault rows.classifiers ≡ None) where
     other = λ f g h. opposed (nat_eq f g ≡ false) f g h (λ d other is m. subst (λ e. is_at f e ≡ false) m.here.ends (none_at is_self ds no_self f d is));
     both = λ f g h.
         opposed (opposite_of (meta_of rows) g ≡ Some f) f g h
-        (λ d other is m. ap opposite_in (kind_at g other m.there ∙ paired_kind enums ds other f d.owner m.back) ∙ plain_opposite other d.owner ∙ ap end_number m.back.ends);
+        (λ d other is m. ap opposite_in (kind_at g other m.there ∙ paired_kind enums ds other f d.owner m.back) ∙ plain_opposite other d.owner
+        ∙ ap end_number m.back.ends);
     mirrors = λ c f x g h linked.
         opposed (links (meta_of rows) x g c ≡ true) f g h
         (λ d other is m. mirror c f x g d other is m (and_two _ _ linked));
@@ -211,8 +222,10 @@ module _ (rows : MetaRows) (none : fault rows.classifiers ≡ None) where
       both_true true b h k = k
       both_true false b h k = cc
 
-      mirror : (c f x g : ℕ) (d other : Draft) → slice_get ds f ≡ Some d → Mirrored ds f d g other → (has_feature (meta_of rows) c f ≡ true) × (plain_to (meta_of rows) (kind_of (meta_of rows) f) x ≡ true) → links (meta_of rows) x g c ≡ true
+      mirror : (c f x g : ℕ) (d other : Draft) → slice_get ds f ≡ Some d → Mirrored ds f d g other
+          → (has_feature (meta_of rows) c f ≡ true) × (plain_to (meta_of rows) (kind_of (meta_of rows) f) x ≡ true) → links (meta_of rows) x g c ≡ true
       mirror c f x g d other is m linked =
           both_true _ _
-          (has_is rows x g other m.there ∙ sym (plain_goes (meta_of rows) d other.owner x) ∙ ap (λ k. plain_to (meta_of rows) k x) (sym (kind_here f g d other is m)) ∙ linked.1)
+          (has_is rows x g other m.there ∙ sym (plain_goes (meta_of rows) d other.owner x)
+          ∙ ap (λ k. plain_to (meta_of rows) k x) (sym (kind_here f g d other is m)) ∙ linked.1)
           (ap (λ k. plain_to (meta_of rows) k c) (kind_back f g d other m) ∙ plain_goes (meta_of rows) other d.owner c ∙ sym (has_is rows c f d is) ∙ linked.0)

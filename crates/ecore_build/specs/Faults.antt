@@ -1,5 +1,6 @@
 -- The faults of a document, each over the whole of it, in the order in which they are looked for.
-use Rattle.std.specs.Prelude.{◌≡◌, ℕ, pos, negsuc, suc, Bool, true, false, List, [], ◌∷◌, Option, None, Some, slice_get, map, length, cond, not, is_some, nat_eq, int_lt, ◌&&◌, ◌||◌}
+use Rattle.std.specs.Prelude.{◌≡◌, ℕ, pos, negsuc, suc, Bool, true, false, List, [], ◌∷◌, Option, None, Some, slice_get, map, length, cond, not}
+use Rattle.std.specs.Prelude.{is_some, nat_eq, int_lt, ◌&&◌, ◌||◌}
 use Rattle.std.specs.Ordering.{int_eq}
 use Rattle.std.specs.List.{list_any, filter, flat_map, range_with_len}
 use Rattle.std.specs.Option.{option_map_or}
@@ -9,7 +10,8 @@ use Rattle.ecore_drafts.specs.Document.{ClassifierRows, classifier_name, enums_o
 use Rattle.ecore_drafts.specs.Drafts.{drafts}
 use Rattle.ecore_meta.specs.Values.{value_of}
 use Rattle.ecore_build.specs.declared.fault.MetaFault.{MetaFault}
-use Rattle.ecore_build.specs.declared.fault.MetaFault.TheVariants.{DupName, Unsupported as UnsupportedFault, NoType, SuperCycle, Clash, SelfOpposite, BadOpposite, BadBound, BadDefault, Memory}
+use Rattle.ecore_build.specs.declared.fault.MetaFault.TheVariants.{DupName, Unsupported as UnsupportedFault, NoType, SuperCycle, Clash, SelfOpposite}
+use Rattle.ecore_build.specs.declared.fault.MetaFault.TheVariants.{BadOpposite, BadBound, BadDefault, Memory}
 use Rattle.ecore_meta.specs.declared.meta.Enum.{Enum as EnumOf}
 use Rattle.ecore_meta.specs.declared.meta.EnumLiteral.{EnumLiteral}
 use Rattle.ecore_drafts.specs.declared.rows.ClassifierRow.{ClassifierRow}

@@ -11,7 +11,8 @@ item_is xs i None h = sym (slice_get_past xs i h.3)
 item_is xs i (Some x) h = sym (slice_get_read xs (length xs) i x.now refl h.3.0 h.1)
 
 -- what the first elements are called, after one more
-pub named_more : {X Y A : Type 0} (f : X → A) (g : Y → A) (xs : List X) (x : X) (ys : List Y) (i : ℕ) (d : Y) → i < length ys → map f xs ≡ map g (take i ys) → f x ≡ g d → d ≡ get_or ys i d → map f (xs ++ x ∷ []) ≡ map g (take (i + 1) ys)
+pub named_more : {X Y A : Type 0} (f : X → A) (g : Y → A) (xs : List X) (x : X) (ys : List Y) (i : ℕ) (d : Y) → i < length ys
+    → map f xs ≡ map g (take i ys) → f x ≡ g d → d ≡ get_or ys i d → map f (xs ++ x ∷ []) ≡ map g (take (i + 1) ys)
 named_more f g xs x ys i d h is here at =
     map-append f xs (x ∷ []) ∙ ap (λ names. names ++ f x ∷ []) is ∙ ap (λ name. map g (take i ys) ++ name ∷ []) (here ∙ ap g at)
     ∙ sym (map-append g (take i ys) (get_or ys i d ∷ [])) ∙ ap (map g) (sym (take_more ys i d h))

@@ -1,5 +1,6 @@
 -- Paths of supertypes, and the bounded search that finds them.
-use Rattle.std.proofs.Common.{◌≡◌, ◌↔◌, IsTrue, ℕ, zero, suc, ◌+◌, ◌<◌, ◌≤◌, Bool, true, false, List, [], ◌∷◌, ◌++◌, ◌||◌, ◌&&◌, cond, refl, sym, ap, subst, ◌∙◌, arith, length, length-append, take, take-take, map, get_or, ◌⊎◌, inl, inr, nat_eq, rules}
+use Rattle.std.proofs.Common.{◌≡◌, ◌↔◌, IsTrue, ℕ, zero, suc, ◌+◌, ◌<◌, ◌≤◌, Bool, true, false, List, [], ◌∷◌, ◌++◌, ◌||◌, ◌&&◌, cond, refl, sym, ap}
+use Rattle.std.proofs.Common.{subst, ◌∙◌, arith, length, length-append, take, take-take, map, get_or, ◌⊎◌, inl, inr, nat_eq, rules}
 use Rattle.std.specs.Prelude.{slice_get, is_some}
 use Rattle.std.specs.List.{list_any, IsDistinct, AllByRecursion}
 use Rattle.std.specs.Cmp.{nat_eq_equiv}
@@ -33,7 +34,8 @@ abbrev Simple : List (List ℕ) → ℕ → ℕ → Type 0
 Simple supers c d = (path : List ℕ) × IsPath supers c path d × IsDistinct nat_eq (c ∷ path)
 
 -- a path through c goes on from c
-cut : (supers : List (List ℕ)) (c d : ℕ) (b : ℕ) (path : List ℕ) → IsPath supers b path d → IsDistinct nat_eq (b ∷ path) → list_any (nat_eq c) (b ∷ path) ≡ true → Simple supers c d
+cut : (supers : List (List ℕ)) (c d : ℕ) (b : ℕ) (path : List ℕ) → IsPath supers b path d → IsDistinct nat_eq (b ∷ path)
+    → list_any (nat_eq c) (b ∷ path) ≡ true → Simple supers c d
 cut supers c d b [] at apart found = or_split (nat_eq c b) false found
     (λ e. let P : ℕ → Type 0 = λ x. Simple supers x d in subst P (sym (nat_same c b e)) ([], at, apart))
     (λ e. cc)
@@ -52,7 +54,8 @@ simple supers d c (b ∷ path) at =
     ] refl
 
 -- every class of a path is one of the package
-inside : (supers : List (List ℕ)) → Inside supers → (d c : ℕ) (path : List ℕ) → c < length supers → IsPath supers c path d → (q : ℕ) → list_any (nat_eq q) (c ∷ path) ≡ true → q < length supers
+inside : (supers : List (List ℕ)) → Inside supers → (d c : ℕ) (path : List ℕ) → c < length supers → IsPath supers c path d → (q : ℕ)
+    → list_any (nat_eq q) (c ∷ path) ≡ true → q < length supers
 inside supers all d c [] below at q found = or_split (nat_eq q c) false found
     (λ e. subst (λ x. x < length supers) (sym (nat_same q c e)) below)
     (λ e. cc)
@@ -78,14 +81,16 @@ unfolding within
 short supers d zero c [] at fits = subst (λ x. nat_eq c x ≡ true) at (nat_itself c)
 short supers d (suc n) c [] at fits = or_left (nat_eq c d) _ (subst (λ x. nat_eq c x ≡ true) at (nat_itself c))
 short supers d zero c (b ∷ path) at fits = absurd (omega arith)
-short supers d (suc n) c (b ∷ path) at fits = or_right (nat_eq c d) _ (any_at (λ x. within supers n x d) b (supers_of supers c) at.0 (short supers d n b path at.1 (omega arith)))
+short supers d (suc n) c (b ∷ path) at fits =
+    or_right (nat_eq c d) _ (any_at (λ x. within supers n x d) b (supers_of supers c) at.0 (short supers d n b path at.1 (omega arith)))
 
 leads_within : (supers : List (List ℕ)) (d : ℕ) (n c : ℕ) → within supers n c d ≡ true → Leads supers c d
 unfolding within
 leads_within supers d zero c h = ([], nat_same c d h)
 leads_within supers d (suc n) c h = or_split (nat_eq c d) (list_any (λ b. within supers n b d) (supers_of supers c)) h
     (λ e. ([], nat_same c d e))
-    (λ e. let step = some_at (λ b. within supers n b d) (supers_of supers c) e in let more = leads_within supers d n step.0 step.2 in (step.0 ∷ more.0, (step.1, more.1)))
+    (λ e. let step = some_at (λ b. within supers n b d) (supers_of supers c) e in let more = leads_within supers d n step.0 step.2
+    in (step.0 ∷ more.0, (step.1, more.1)))
 
 and_right : (a b : Bool) → a && b ≡ true → b ≡ true
 and_right true b h = h
@@ -117,12 +122,15 @@ pub chain_is : (supers : List (List ℕ)) → Inside supers → (c d : ℕ) → 
 chain_is supers all c d below b is = ((λ h. above_leads supers c d (sym is ∙ h)), (λ led. is ∙ leads_above supers all c d below led))
 
 -- one step more at the end
-pub leads_on : (supers : List (List ℕ)) (d b : ℕ) → list_any (nat_eq b) (supers_of supers d) ≡ true → (c : ℕ) (path : List ℕ) → IsPath supers c path d → Leads supers c b
+pub leads_on : (supers : List (List ℕ)) (d b : ℕ) → list_any (nat_eq b) (supers_of supers d) ≡ true → (c : ℕ) (path : List ℕ) → IsPath supers c path d
+    → Leads supers c b
 leads_on supers d b up c [] at = (b ∷ [], (subst (λ x. list_any (nat_eq b) (supers_of supers x) ≡ true) (sym at) up, refl))
 leads_on supers d b up c (a ∷ path) at = let more = leads_on supers d b up a path at.1 in (a ∷ more.0, (at.0, more.1))
 
 -- a list with c that has the supertypes of each class in it has every class that c leads to
-pub closed_has : (supers : List (List ℕ)) (reached : List ℕ) → ((d : ℕ) → list_any (nat_eq d) reached ≡ true → (b : ℕ) → list_any (nat_eq b) (supers_of supers d) ≡ true → list_any (nat_eq b) reached ≡ true) → (d c : ℕ) (path : List ℕ) → IsPath supers c path d → list_any (nat_eq c) reached ≡ true → list_any (nat_eq d) reached ≡ true
+pub closed_has : (supers : List (List ℕ)) (reached : List ℕ)
+    → ((d : ℕ) → list_any (nat_eq d) reached ≡ true → (b : ℕ) → list_any (nat_eq b) (supers_of supers d) ≡ true → list_any (nat_eq b) reached ≡ true)
+    → (d c : ℕ) (path : List ℕ) → IsPath supers c path d → list_any (nat_eq c) reached ≡ true → list_any (nat_eq d) reached ≡ true
 closed_has supers reached closed d c [] at has = subst (λ x. list_any (nat_eq x) reached ≡ true) at has
 closed_has supers reached closed d c (b ∷ path) at has = closed_has supers reached closed d b path at.1 (closed c has b at.0)
 
@@ -134,7 +142,9 @@ pub grown_twice : (us vs xs ys zs : List ℕ) → Grown us xs ys → Grown vs ys
 grown_twice us vs xs ys zs g h = record {
   longer = omega (arith, g.longer, h.longer);
   kept = prefix g.kept h.kept;
-  has = λ d. h.has d ∙ ap (λ b. b || list_any (nat_eq d) vs) (g.has d) ∙ or_assoc (list_any (nat_eq d) xs) (list_any (nat_eq d) us) (list_any (nat_eq d) vs) ∙ ap (λ b. list_any (nat_eq d) xs || b) (sym (list_any-append (nat_eq d) us vs));
+  has = λ d. h.has d ∙ ap (λ b. b || list_any (nat_eq d) vs) (g.has d)
+      ∙ or_assoc (list_any (nat_eq d) xs) (list_any (nat_eq d) us) (list_any (nat_eq d) vs)
+      ∙ ap (λ b. list_any (nat_eq d) xs || b) (sym (list_any-append (nat_eq d) us vs));
 }
   where
     or_assoc : (a b c : Bool) → a || b || c ≡ a || (b || c)
@@ -163,13 +173,20 @@ grown_there u xs there = record {
 }
 
 pub grown_one : (u : ℕ) (xs : List ℕ) → Grown (u ∷ []) xs (xs ++ u ∷ [])
-grown_one u xs = record { longer = omega (arith, length-append xs (u ∷ [])); kept = take-append_seam xs (u ∷ []); has = λ d. list_any-append (nat_eq d) xs (u ∷ []) }
+grown_one u xs = record {
+  longer = omega (arith, length-append xs (u ∷ []));
+  kept = take-append_seam xs (u ∷ []);
+  has =
+      λ d. list_any-append (nat_eq d) xs (u ∷ []);
+}
 
 at_is : (u d : ℕ) → is_at (nat_cmp u) d ≡ nat_eq d u
 at_is u d = search rules
 
 -- a class that was not yet seen, now seen and reached
-pub reached_more : (seen now : BTreeSet ℕ) (xs : List ℕ) (u : ℕ) → Reached seen xs → ((q : ℕ) → contains nat_cmp now q ≡ cond (is_at (nat_cmp u) q) true (contains nat_cmp seen q)) → false ≡ contains nat_cmp seen u → IsStrictlySortedBy nat_cmp now.keys → Reached now (xs ++ u ∷ [])
+pub reached_more : (seen now : BTreeSet ℕ) (xs : List ℕ) (u : ℕ) → Reached seen xs
+    → ((q : ℕ) → contains nat_cmp now q ≡ cond (is_at (nat_cmp u) q) true (contains nat_cmp seen q)) → false ≡ contains nat_cmp seen u
+    → IsStrictlySortedBy nat_cmp now.keys → Reached now (xs ++ u ∷ [])
 reached_more seen now xs u reached told new sorted = record {
   sorted = sorted;
   alike = λ d.
@@ -184,9 +201,12 @@ reached_more seen now xs u reached told new sorted = record {
     by_test false true = refl
     by_test false false = refl
 
-pub reached_first : (none now : BTreeSet ℕ) (u : ℕ) → ((q : ℕ) → contains nat_cmp none q ≡ false) → ((q : ℕ) → contains nat_cmp now q ≡ cond (is_at (nat_cmp u) q) true (contains nat_cmp none q)) → IsStrictlySortedBy nat_cmp none.keys → IsStrictlySortedBy nat_cmp now.keys → Reached now (u ∷ [])
+pub reached_first : (none now : BTreeSet ℕ) (u : ℕ) → ((q : ℕ) → contains nat_cmp none q ≡ false)
+    → ((q : ℕ) → contains nat_cmp now q ≡ cond (is_at (nat_cmp u) q) true (contains nat_cmp none q)) → IsStrictlySortedBy nat_cmp none.keys
+    → IsStrictlySortedBy nat_cmp now.keys → Reached now (u ∷ [])
 unfolding IsDistinct
-reached_first none now u empty told sorted rises = reached_more none now [] u (record { alike = empty; apart = IsDistinct-none; sorted = sorted }) told (sym (empty u)) rises
+reached_first none now u empty told sorted rises =
+    reached_more none now [] u (record { alike = empty; apart = IsDistinct-none; sorted = sorted }) told (sym (empty u)) rises
   where
     IsDistinct-none : IsDistinct nat_eq []
     IsDistinct-none = tt
@@ -234,10 +254,12 @@ below_or_at zero (suc n) h = inl (omega arith)
 below_or_at (suc k) zero h = absurd (omega arith)
 below_or_at (suc k) (suc n) h = elim (below_or_at k n (omega arith)) [ inl lt ↦ inl (omega arith) | inr e ↦ inr (ap (λ i. suc i) e) ]
 
-pub walk_more : (supers : List (List ℕ)) (c : ℕ) (seen now : BTreeSet ℕ) (old new : List ℕ) (next : ℕ) → Inside supers → Walked supers c seen old next → next < length old → Reached now new → Grown (supers_of supers (get_or old next 0)) old new → Walked supers c now new (next + 1)
+pub walk_more : (supers : List (List ℕ)) (c : ℕ) (seen now : BTreeSet ℕ) (old new : List ℕ) (next : ℕ) → Inside supers → Walked supers c seen old next
+    → next < length old → Reached now new → Grown (supers_of supers (get_or old next 0)) old new → Walked supers c now new (next + 1)
 walk_more supers c seen now old new next all walked more kept grown = record {
   kept = kept;
-  below = λ d h. or_split (list_any (nat_eq d) old) (list_any (nat_eq d) (supers_of supers (get_or old next 0))) (sym (grown.has d) ∙ h) (λ e. walked.below d e) (λ e. all (get_or old next 0) d e);
+  below = λ d h. or_split (list_any (nat_eq d) old) (list_any (nat_eq d) (supers_of supers (get_or old next 0))) (sym (grown.has d) ∙ h)
+      (λ e. walked.below d e) (λ e. all (get_or old next 0) d e);
   led = λ d h. or_split (list_any (nat_eq d) old) (list_any (nat_eq d) (supers_of supers (get_or old next 0))) (sym (grown.has d) ∙ h) (λ e. walked.led d e)
       (λ e. let way = walked.led (get_or old next 0) (in_at old next more) in leads_on supers (get_or old next 0) d e c way.0 way.1);
   start = grown.has c ∙ or_left _ _ walked.start;
@@ -245,11 +267,17 @@ walk_more supers c seen now old new next all walked more kept grown = record {
   counted = omega (arith, grown.longer);
 }
   where
-    by_place : (k : ℕ) → k < next + 1 → (b : ℕ) → list_any (nat_eq b) (supers_of supers (get_or new k 0)) ≡ true → (k < next) ⊎ (k ≡ next) → list_any (nat_eq b) new ≡ true
-    by_place k h b m (inl lt) = grown.has b ∙ or_left _ _ (walked.closed k lt b (subst (λ x. list_any (nat_eq b) (supers_of supers x) ≡ true) (kept_at old new k grown.kept (omega arith)) m))
-    by_place k h b m (inr e) = grown.has b ∙ or_right (list_any (nat_eq b) old) _ (subst (λ x. list_any (nat_eq b) (supers_of supers x) ≡ true) (kept_at old new k grown.kept (omega arith) ∙ ap (λ i. get_or old i 0) e) m)
+    by_place : (k : ℕ) → k < next + 1 → (b : ℕ) → list_any (nat_eq b) (supers_of supers (get_or new k 0)) ≡ true → (k < next) ⊎ (k ≡ next)
+        → list_any (nat_eq b) new ≡ true
+    by_place k h b m (inl lt) =
+        grown.has b ∙ or_left _ _
+        (walked.closed k lt b (subst (λ x. list_any (nat_eq b) (supers_of supers x) ≡ true) (kept_at old new k grown.kept (omega arith)) m))
+    by_place k h b m (inr e) =
+        grown.has b ∙ or_right (list_any (nat_eq b) old) _
+        (subst (λ x. list_any (nat_eq b) (supers_of supers x) ≡ true) (kept_at old new k grown.kept (omega arith) ∙ ap (λ i. get_or old i 0) e) m)
 
-pub walk_ends : (supers : List (List ℕ)) (c : ℕ) (seen : BTreeSet ℕ) (reached : List ℕ) (next : ℕ) → Inside supers → c < length supers → Walked supers c seen reached next → length reached ≤ next → (d : ℕ) → contains nat_cmp seen d ≡ is_above supers c d
+pub walk_ends : (supers : List (List ℕ)) (c : ℕ) (seen : BTreeSet ℕ) (reached : List ℕ) (next : ℕ) → Inside supers → c < length supers
+    → Walked supers c seen reached next → length reached ≤ next → (d : ℕ) → contains nat_cmp seen d ≡ is_above supers c d
 walk_ends supers c seen reached next all below walked done d =
     walked.kept.alike d
     ∙ same_bool (list_any (nat_eq d) reached) (is_above supers c d)
@@ -257,12 +285,15 @@ walk_ends supers c seen reached next all below walked done d =
     (λ h. let way = above_leads supers c d h in closed_has supers reached closed d c way.0 way.1 walked.start)
   where
     closed : (d : ℕ) → list_any (nat_eq d) reached ≡ true → (b : ℕ) → list_any (nat_eq b) (supers_of supers d) ≡ true → list_any (nat_eq b) reached ≡ true
-    closed d h b m = let at = place_in d reached h in walked.closed at.0 (omega (arith, at.1)) b (subst (λ x. list_any (nat_eq b) (supers_of supers x) ≡ true) (sym at.2) m)
+    closed d h b m = let at = place_in d reached h
+        in walked.closed at.0 (omega (arith, at.1)) b (subst (λ x. list_any (nat_eq b) (supers_of supers x) ≡ true) (sym at.2) m)
 
-pub walk_small : (supers : List (List ℕ)) (c : ℕ) (seen : BTreeSet ℕ) (reached : List ℕ) (next : ℕ) → Walked supers c seen reached next → length reached ≤ length supers
+pub walk_small : (supers : List (List ℕ)) (c : ℕ) (seen : BTreeSet ℕ) (reached : List ℕ) (next : ℕ) → Walked supers c seen reached next
+    → length reached ≤ length supers
 walk_small supers c seen reached next walked = length-le_from_distinct_below reached (length supers) walked.kept.apart walked.below
 
-pub walk_at : (supers : List (List ℕ)) (c : ℕ) (seen : BTreeSet ℕ) (reached : List ℕ) (next : ℕ) → Walked supers c seen reached next → next < length reached → get_or reached next 0 < length supers
+pub walk_at : (supers : List (List ℕ)) (c : ℕ) (seen : BTreeSet ℕ) (reached : List ℕ) (next : ℕ) → Walked supers c seen reached next
+    → next < length reached → get_or reached next 0 < length supers
 walk_at supers c seen reached next walked more = walked.below _ (in_at reached next more)
 
 pub supers_at : {X : Type 0} (f : X → List ℕ) (xs : List X) (i : ℕ) (d : X) → i < length xs → supers_of (map f xs) i ≡ f (get_or xs i d)

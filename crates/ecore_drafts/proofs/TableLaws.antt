@@ -1,5 +1,6 @@
 -- The tables of a metamodel, one class more.
-use Rattle.std.proofs.Common.{◌≡◌, ℕ, zero, suc, ◌+◌, ◌<◌, ◌≤◌, Bool, true, false, List, [], ◌∷◌, ◌++◌, ◌||◌, ◌⊎◌, inl, inr, refl, sym, ap, subst, ◌∙◌, arith, length, map, get_or, nat_eq}
+use Rattle.std.proofs.Common.{◌≡◌, ℕ, zero, suc, ◌+◌, ◌<◌, ◌≤◌, Bool, true, false, List, [], ◌∷◌, ◌++◌, ◌||◌, ◌⊎◌, inl, inr, refl, sym, ap, subst}
+use Rattle.std.proofs.Common.{◌∙◌, arith, length, map, get_or, nat_eq}
 use Rattle.std.specs.Prelude.{None, Some, slice_get}
 use Rattle.std.specs.List.{filter, list_any, range_with_len}
 use Rattle.std.specs.BTreeSet.{BTreeSet}
@@ -82,11 +83,18 @@ table_is supers inside c d = by_place (split c (length supers))
 
     by_place : (c < length supers) ⊎ (length supers ≤ c) → is_in (all_above supers) c d ≡ is_above supers c d
     by_place (inl h) =
-        ap (λ o. option_map_or (list_any (nat_eq d)) o false) (got_range (λ k. filter (is_above supers k) (range_with_len 0 (length supers))) 0 (length supers) c h)
+        ap (λ o. option_map_or (list_any (nat_eq d)) o false)
+        (got_range (λ k. filter (is_above supers k) (range_with_len 0 (length supers))) 0 (length supers) c h)
         ∙ ap (λ k. list_any (nat_eq d) (filter (is_above supers k) (range_with_len 0 (length supers)))) (none_less c)
         ∙ in_kept (is_above supers c) (length supers) d (low h)
     by_place (inr h) =
-        ap (λ o. option_map_or (list_any (nat_eq d)) o false) (none_past (all_above supers) c (omega (arith, length-map (range_with_len 0 (length supers)) (λ k. filter (is_above supers k) (range_with_len 0 (length supers))), range_length 0 (length supers))))
+        ap (λ o. option_map_or (list_any (nat_eq d)) o false)
+        (none_past (all_above supers) c
+        (omega (
+          arith,
+          length-map (range_with_len 0 (length supers)) (λ k. filter (is_above supers k) (range_with_len 0 (length supers))),
+          range_length 0 (length supers),
+        )))
         ∙ sym (above_none supers c d h)
 
 any_same : (p q : ℕ → Bool) (xs : List ℕ) → ((b : ℕ) → p b ≡ q b) → list_any p xs ≡ list_any q xs
@@ -94,13 +102,15 @@ any_same p q [] h = refl
 any_same p q (x ∷ xs) h = ap (λ b. b || list_any p xs) (h x) ∙ ap (λ b. q x || b) (any_same p q xs h)
 
 -- what the table says of the supertypes of a class
-pub cyclic_at : {X : Type 0} (f : X → List ℕ) (xs : List X) (c : ℕ) (d : X) → Inside (map f xs) → c < length xs → list_any (λ b. is_in (all_above (map f xs)) b c) (f (get_or xs c d)) ≡ is_cyclic (map f xs) c
+pub cyclic_at : {X : Type 0} (f : X → List ℕ) (xs : List X) (c : ℕ) (d : X) → Inside (map f xs) → c < length xs
+    → list_any (λ b. is_in (all_above (map f xs)) b c) (f (get_or xs c d)) ≡ is_cyclic (map f xs) c
 cyclic_at f xs c d inside h =
     any_same (λ b. is_in (all_above (map f xs)) b c) (λ b. is_above (map f xs) b c) (f (get_or xs c d)) (λ b. table_is (map f xs) inside b c)
     ∙ ap (list_any (λ b. is_above (map f xs) b c)) (sym (supers_at f xs c d h))
 
 pub cycle_found : (supers : List (List ℕ)) (c : ℕ) → c < length supers → true ≡ is_cyclic supers c → true ≡ super_cycle supers
-cycle_found supers c h is = sym (any_at (is_cyclic supers) c (range_with_len 0 (length supers)) (in_range 0 (length supers) c (omega arith) (omega arith)) (sym is))
+cycle_found supers c h is =
+    sym (any_at (is_cyclic supers) c (range_with_len 0 (length supers)) (in_range 0 (length supers) c (omega arith) (omega arith)) (sym is))
 
 pub none_more : (p : ℕ → Bool) (n : ℕ) → list_any p (range_with_len 0 n) ≡ false → false ≡ p n → list_any p (range_with_len 0 (n + 1)) ≡ false
 none_more p n before new =
@@ -110,9 +120,11 @@ none_more p n before new =
     plus : (n : ℕ) → 0 + n ≡ n
     plus n = omega arith
 
-pub rising_more : (sets : List (BTreeSet ℕ)) (s : BTreeSet ℕ) (f : ℕ → List ℕ) (n : ℕ) → map (λ s. s.keys) sets ≡ map f (range_with_len 0 n) → s.keys ≡ f n → map (λ s. s.keys) (sets ++ s ∷ []) ≡ map f (range_with_len 0 (n + 1))
+pub rising_more : (sets : List (BTreeSet ℕ)) (s : BTreeSet ℕ) (f : ℕ → List ℕ) (n : ℕ) → map (λ s. s.keys) sets ≡ map f (range_with_len 0 n)
+    → s.keys ≡ f n → map (λ s. s.keys) (sets ++ s ∷ []) ≡ map f (range_with_len 0 (n + 1))
 rising_more sets s f n is here =
     map-append (λ s. s.keys) sets (s ∷ []) ∙ ap (λ k. map (λ s. s.keys) sets ++ k ∷ []) here ∙ map_more f (map (λ s. s.keys) sets) n is
 
-pub past_all : (p : ℕ → Bool) (supers : List (List ℕ)) (n : ℕ) → length supers ≡ n → list_any p (range_with_len 0 n) ≡ false → false ≡ list_any p (range_with_len 0 (length supers))
+pub past_all : (p : ℕ → Bool) (supers : List (List ℕ)) (n : ℕ) → length supers ≡ n → list_any p (range_with_len 0 n) ≡ false
+    → false ≡ list_any p (range_with_len 0 (length supers))
 past_all p supers n long none = sym none ∙ ap (λ k. list_any p (range_with_len 0 k)) (sym long)

@@ -3,7 +3,8 @@ use Rattle.std.proofs.Common.{◌≡◌, ◌∙◌, ap, sym, subst, Option, None
 use Rattle.ecore_build.specs.Faults.{IsFault, fault}
 use Rattle.ecore_meta.specs.Meta.{Meta}
 use Rattle.ecore_build.specs.declared.fault.MetaFault.{MetaFault}
-use Rattle.ecore_build.specs.declared.fault.MetaFault.TheVariants.{DupName, Unsupported, NoType, SuperCycle, Clash, SelfOpposite, BadOpposite, BadBound, BadDefault, Memory}
+use Rattle.ecore_build.specs.declared.fault.MetaFault.TheVariants.{DupName, Unsupported, NoType, SuperCycle, Clash, SelfOpposite, BadOpposite}
+use Rattle.ecore_build.specs.declared.fault.MetaFault.TheVariants.{BadBound, BadDefault, Memory}
 use Rattle.ecore_drafts.specs.declared.rows.MetaRows.{MetaRows}
 use Rattle.ecore_json.specs.declared.fault.EcoreFault.{EcoreFault}
 use Rattle.ecore_build.specs.Build.{meta_of}
@@ -21,10 +22,12 @@ of_fault BadOpposite first rows h = ap (λ o. built o rows) h
 of_fault BadBound first rows h = ap (λ o. built o rows) h
 of_fault BadDefault first rows h = ap (λ o. built o rows) h
 
-pub fault_named : (e : MetaFault) (f : EcoreFault) (first : Option MetaFault) (rows : MetaRows) → f ≡ of_meta e → IsFault first e → GivesMetamodel (Err f) (built first rows)
+pub fault_named : (e : MetaFault) (f : EcoreFault) (first : Option MetaFault) (rows : MetaRows) → f ≡ of_meta e → IsFault first e
+    → GivesMetamodel (Err f) (built first rows)
 fault_named e f first rows is h = subst (λ f. GivesMetamodel (Err f) (built first rows)) (sym is) (of_fault e first rows h)
 
-pub gives_metamodel : (meta : Meta) (rows : MetaRows) → fault rows.classifiers ≡ None → meta ≡ meta_of rows → GivesMetamodel (Ok meta) (built (fault rows.classifiers) rows)
+pub gives_metamodel : (meta : Meta) (rows : MetaRows) → fault rows.classifiers ≡ None → meta ≡ meta_of rows
+    → GivesMetamodel (Ok meta) (built (fault rows.classifiers) rows)
 gives_metamodel meta rows none is =
     let wrap : Meta → Result Meta EcoreFault = λ m. Ok m in
     ap (λ o. built o rows) none ∙ sym (ap wrap is)

@@ -26,7 +26,8 @@ use Rattle.ecore_json.specs.References.{is_feature_name, is_mark, is_name, is_na
 use Rattle.ecore_json.specs.Rows.{alone_or, class_row, classifier_row, elements, enum_row, feature_row, list_of, own_prefix, rows_of, text_at}
 use Rattle.ecore_json.specs.Table.{required, wants}
 use Rattle.ecore_json.specs.Walk as Walk
-use Rattle.ecore_json.specs.Walk.{array_fault, classifier_shape, feature_shape, first_lacking, has, is_a, items_fault, keys_fault, object_fault, package_fault, shape_at, value_fault}
+use Rattle.ecore_json.specs.Walk.{array_fault, classifier_shape, feature_shape, first_lacking, has, is_a, items_fault, keys_fault, object_fault}
+use Rattle.ecore_json.specs.Walk.{package_fault, shape_at, value_fault}
 
 -- ---- tests
 no_some : {A : Type 0} (o : Option A) → is_some o ≡ false → o ≡ None
@@ -70,7 +71,8 @@ module _ (own : Name) (s : Shape) (lacking : Option Name) where
   abbrev judged : Name → Data → Option WalkFault
   judged k d = value_fault own (wants s k) d (λ p. object_fault own p d) (λ p. array_fault own p d)
 
-  found_fault : (k l : Name) (e d : Data) (rest : Option Data) → (rest ≡ Some d → judged k d ≡ None) → judged l e ≡ None → (r : Ordering) → slice_cmp nat_cmp k l ≡ r → match_ordering r rest (Some e) rest ≡ Some d → judged k d ≡ None
+  found_fault : (k l : Name) (e d : Data) (rest : Option Data) → (rest ≡ Some d → judged k d ≡ None) → judged l e ≡ None → (r : Ordering)
+      → slice_cmp nat_cmp k l ≡ r → match_ordering r rest (Some e) rest ≡ Some d → judged k d ≡ None
   found_fault k l e d rest more here Less is at = more at
   found_fault k l e d rest more here Equal is at =
       let key : k ≡ l = exact_bytes k l is in
@@ -95,7 +97,8 @@ all_there : (ks : List Name) (d : Data) → first_lacking ks d ≡ None → AllB
 all_there [] d h = tt
 all_there (k ∷ ks) d h = by_test (has k d) refl (all_there ks d) h
   where
-    by_test : (b : Bool) → has k d ≡ b → (first_lacking ks d ≡ None → AllByRecursion (λ k. has k d ≡ true) ks) → cond b (first_lacking ks d) (Some k) ≡ None → (has k d ≡ true) × AllByRecursion (λ k. has k d ≡ true) ks
+    by_test : (b : Bool) → has k d ≡ b → (first_lacking ks d ≡ None → AllByRecursion (λ k. has k d ≡ true) ks)
+        → cond b (first_lacking ks d) (Some k) ≡ None → (has k d ≡ true) × AllByRecursion (λ k. has k d ≡ true) ks
     by_test true is more h = (is, more h)
     by_test false is more h = cc
 
@@ -108,9 +111,14 @@ module _ (own : Name) where
   members_fit : (s : Shape) (ms : Members) → Walk.shaped_fault (Some s) (object ms) (λ s lacking. keys_fault own s lacking ms) ≡ None → IsFit own s (object ms)
   members_fit s ms h =
       let keys = (both_none _ _ h).1 in
-      record { values = members_judged own s (first_lacking (required s) (object ms)) ms keys; there = all_there (required s) (object ms) (none_lacking own s (first_lacking (required s) (object ms)) ms keys) }
+      record {
+        values = members_judged own s (first_lacking (required s) (object ms)) ms keys;
+        there =
+            all_there (required s) (object ms) (none_lacking own s (first_lacking (required s) (object ms)) ms keys);
+      }
 
-  shaped_fit : (o : Option Shape) (s : Shape) (ms : Members) → o ≡ Some s → Walk.shaped_fault o (object ms) (λ s lacking. keys_fault own s lacking ms) ≡ None → IsFit own s (object ms)
+  shaped_fit : (o : Option Shape) (s : Shape) (ms : Members) → o ≡ Some s
+      → Walk.shaped_fault o (object ms) (λ s lacking. keys_fault own s lacking ms) ≡ None → IsFit own s (object ms)
   shaped_fit None s ms is h = cc
   shaped_fit (Some t) s ms is h = let same : t ≡ s = cc in subst (λ x. IsFit own x (object ms)) same (members_fit t ms h)
 
@@ -142,7 +150,8 @@ module _ (own : Name) where
   items_fit p (item d ds) h = let parts = both_none _ _ h in (parts.0, items_fit p ds parts.1)
 
   -- one or many objects
-  many_fit : (p : Position) (v : Data) → cond (is_some (as_array v)) (array_fault own p v) (object_fault own p v) ≡ None → AllByRecursion (λ x. object_fault own p x ≡ None) (alone_or v (as_array v))
+  many_fit : (p : Position) (v : Data) → cond (is_some (as_array v)) (array_fault own p v) (object_fault own p v) ≡ None
+      → AllByRecursion (λ x. object_fault own p x ≡ None) (alone_or v (as_array v))
   unfolding array_fault
   many_fit p (array ds) h = items_fit p ds h
   many_fit p null h = (h, tt)
@@ -186,7 +195,8 @@ abbrev ReferenceShape : Shape
 ReferenceShape = the (feature_shape (said ecore_reference)) tt
 
 -- ---- names
-name_is : (d : Data) (v : Data) (p : Name → Bool) (o : Option Name) → get (codes "name") d ≡ Some v → as_str v ≡ o → option_map_or p o false ≡ true → p (text_at (codes "name") d) ≡ true
+name_is : (d : Data) (v : Data) (p : Name → Bool) (o : Option Name) → get (codes "name") d ≡ Some v → as_str v ≡ o → option_map_or p o false ≡ true
+    → p (text_at (codes "name") d) ≡ true
 name_is d v p None at is h = cc
 name_is d v p (Some t) at is h =
     subst (λ o. p (option_map_or (λ t. t) (option_and_then as_str o) []) ≡ true) (sym at) (subst (λ o. p (option_map_or (λ t. t) o []) ≡ true) (sym is) h)
@@ -206,17 +216,20 @@ free_byte p none b h = not_so (b == 47) (λ e. true_false (p b) h (ap p (same_by
 free_bytes : (bs : Name) → list_all is_name_byte bs ≡ true → has_slash bs ≡ false
 free_bytes [] h = refl
 free_bytes (b ∷ bs) h =
-    ap (λ t. t || has_slash bs) (free_byte is_name_byte refl b (and_first (is_name_byte b) (list_all is_name_byte bs) h)) ∙ free_bytes bs (and_second (is_name_byte b) (list_all is_name_byte bs) h)
+    ap (λ t. t || has_slash bs) (free_byte is_name_byte refl b (and_first (is_name_byte b) (list_all is_name_byte bs) h))
+    ∙ free_bytes bs (and_second (is_name_byte b) (list_all is_name_byte bs) h)
 
 no_slash : (t : Name) → is_name t ≡ true → has_slash t ≡ false
 no_slash [] h = cc
 no_slash (b ∷ bs) h =
     let first = and_first (is_ascii_alphabetic b || is_mark b) (nat_lt (length bs) most_name_bytes && list_all is_name_byte bs) h in
-    let rest = and_second (nat_lt (length bs) most_name_bytes) (list_all is_name_byte bs) (and_second (is_ascii_alphabetic b || is_mark b) (nat_lt (length bs) most_name_bytes && list_all is_name_byte bs) h) in
+    let rest = and_second (nat_lt (length bs) most_name_bytes) (list_all is_name_byte bs)
+    (and_second (is_ascii_alphabetic b || is_mark b) (nat_lt (length bs) most_name_bytes && list_all is_name_byte bs) h) in
     ap (λ t. t || has_slash bs) (free_byte (λ b. is_ascii_alphabetic b || is_mark b) refl b first) ∙ free_bytes bs rest
 
 not_taken : (t : Name) → is_feature_name t ≡ true → is_taken t ≡ false
-not_taken t h = not_true (bytes_eq t (codes "eClass") || bytes_eq t (codes "_id") || bytes_eq t (codes "$ref")) (and_second (is_name t) (not (bytes_eq t (codes "eClass") || bytes_eq t (codes "_id") || bytes_eq t (codes "$ref"))) h)
+not_taken t h = not_true (bytes_eq t (codes "eClass") || bytes_eq t (codes "_id") || bytes_eq t (codes "$ref"))
+    (and_second (is_name t) (not (bytes_eq t (codes "eClass") || bytes_eq t (codes "_id") || bytes_eq t (codes "$ref"))) h)
 
 module _ (own : Name) where
   class_named : (d : Data) → IsFit own ClassShape d → is_name (text_at (codes "name") d) ≡ true
@@ -241,26 +254,35 @@ module _ (own : Name) where
   feature_named : (p : Position) (y : Data) → shape_at p y ≡ feature_shape y → object_fault own p y ≡ None → is_feature_name (text_at (codes "name") y) ≡ true
   feature_named p y place h = by_class (is_a ecore_attribute y) (is_a ecore_reference y) place
     where
-      by_class : (b c : Bool) → shape_at p y ≡ cond b (Some AttributeShape) (cond c (Some ReferenceShape) None) → is_feature_name (text_at (codes "name") y) ≡ true
+      by_class : (b c : Bool) → shape_at p y ≡ cond b (Some AttributeShape) (cond c (Some ReferenceShape) None)
+          → is_feature_name (text_at (codes "name") y) ≡ true
       by_class true c is = attribute_named y (object_fit own p y AttributeShape is h)
       by_class false true is = reference_named y (object_fit own p y ReferenceShape is h)
       by_class false false is = absurd (object_shaped own p y is h)
 
-  features_named : (p : Position) → ((y : Data) → shape_at p y ≡ feature_shape y) → (prefix : Name) (ys : List Data) → AllByRecursion (λ y. object_fault own p y ≡ None) ys → AllByRecursion (λ (f : FeatureRow). is_taken f.name ≡ false) (map (feature_row prefix) ys)
+  features_named : (p : Position) → ((y : Data) → shape_at p y ≡ feature_shape y) → (prefix : Name) (ys : List Data)
+      → AllByRecursion (λ y. object_fault own p y ≡ None) ys → AllByRecursion (λ (f : FeatureRow). is_taken f.name ≡ false) (map (feature_row prefix) ys)
   features_named p place prefix [] all = tt
-  features_named p place prefix (y ∷ ys) all = (not_taken (text_at (codes "name") y) (feature_named p y (place y) all.0), features_named p place prefix ys all.1)
+  features_named p place prefix (y ∷ ys) all =
+      (not_taken (text_at (codes "name") y) (feature_named p y (place y) all.0), features_named p place prefix ys all.1)
 
-  features_fit : (prefix : Name) (x : Data) → IsFit own ClassShape x → (o : Option Data) → get (codes "eStructuralFeatures") x ≡ o → AllByRecursion (λ (f : FeatureRow). is_taken f.name ≡ false) (map (feature_row prefix) (elements o))
+  features_fit : (prefix : Name) (x : Data) → IsFit own ClassShape x → (o : Option Data) → get (codes "eStructuralFeatures") x ≡ o
+      → AllByRecursion (λ (f : FeatureRow). is_taken f.name ≡ false) (map (feature_row prefix) (elements o))
   unfolding wants
   features_fit prefix x fit None at = tt
-  features_fit prefix x fit (Some v) at = features_named _ (λ y. refl) prefix (alone_or v (as_array v)) (many_fit own _ v (fit.values (codes "eStructuralFeatures") v at))
+  features_fit prefix x fit (Some v) at =
+      features_named _ (λ y. refl) prefix (alone_or v (as_array v)) (many_fit own _ v (fit.values (codes "eStructuralFeatures") v at))
 
-  classifier_fit : (p : Position) (prefix : Name) (x : Data) → shape_at p x ≡ classifier_shape x → object_fault own p x ≡ None → NamesFit (classifier_row prefix x ∷ [])
+  classifier_fit : (p : Position) (prefix : Name) (x : Data) → shape_at p x ≡ classifier_shape x → object_fault own p x ≡ None
+      → NamesFit (classifier_row prefix x ∷ [])
   classifier_fit p prefix x place h = by_class (is_a ecore_class x) refl
     where
-      by_class : (b : Bool) → is_a ecore_class x ≡ b → NamesFit (cond b (Class (class_row prefix x)) (cond (is_a ecore_enum x) (Enum (enum_row x)) (Plain (text_at (codes "name") x))) ∷ [])
+      by_class : (b : Bool) → is_a ecore_class x ≡ b
+          → NamesFit (cond b (Class (class_row prefix x)) (cond (is_a ecore_enum x) (Enum (enum_row x)) (Plain (text_at (codes "name") x))) ∷ [])
       by_class true is =
-          let shape : shape_at p x ≡ Some ClassShape = place ∙ ap (λ b. cond b (Some ClassShape) (cond (is_a ecore_enum x) (Some EnumShape) (cond (is_a ecore_data_type x) (Some DataTypeShape) None))) is in
+          let shape : shape_at p x ≡ Some ClassShape =
+          place ∙ ap (λ b. cond b (Some ClassShape)
+          (cond (is_a ecore_enum x) (Some EnumShape) (cond (is_a ecore_data_type x) (Some DataTypeShape) None))) is in
           let fit = object_fit own p x ClassShape shape h in
           (no_slash (text_at (codes "name") x) (class_named x fit), features_fit prefix x fit (get (codes "eStructuralFeatures") x) refl, tt)
       by_class false is =
@@ -275,11 +297,15 @@ module _ (own : Name) where
   one_more (Enum e) rows h g = g
   one_more (Plain t) rows h g = g
 
-  classifiers_fit : (p : Position) → ((x : Data) → shape_at p x ≡ classifier_shape x) → (prefix : Name) (xs : List Data) → AllByRecursion (λ x. object_fault own p x ≡ None) xs → NamesFit (map (classifier_row prefix) xs)
+  classifiers_fit : (p : Position) → ((x : Data) → shape_at p x ≡ classifier_shape x) → (prefix : Name) (xs : List Data)
+      → AllByRecursion (λ x. object_fault own p x ≡ None) xs → NamesFit (map (classifier_row prefix) xs)
   classifiers_fit p place prefix [] all = tt
-  classifiers_fit p place prefix (x ∷ xs) all = one_more (classifier_row prefix x) (map (classifier_row prefix) xs) (classifier_fit p prefix x (place x) all.0) (classifiers_fit p place prefix xs all.1)
+  classifiers_fit p place prefix (x ∷ xs) all =
+      one_more (classifier_row prefix x) (map (classifier_row prefix) xs) (classifier_fit p prefix x (place x) all.0)
+      (classifiers_fit p place prefix xs all.1)
 
-  package_fit : (prefix : Name) (d : Data) → package_fault own d ≡ None → (o : Option Data) → get (codes "eClassifiers") d ≡ o → NamesFit (map (classifier_row prefix) (elements o))
+  package_fit : (prefix : Name) (d : Data) → package_fault own d ≡ None → (o : Option Data) → get (codes "eClassifiers") d ≡ o
+      → NamesFit (map (classifier_row prefix) (elements o))
   unfolding wants
   package_fit prefix d h None at = tt
   package_fit prefix d h (Some v) at =

@@ -1,10 +1,13 @@
 -- A text has no more values in it than bytes, so its rows can be numbered.
-use Rattle.std.proofs.Common.{◌≡◌, ℕ, zero, suc, ◌+◌, ◌≤◌, List, [], ◌∷◌, length, Option, Some, None, option_map, option_and_then, Ordering, Less, Equal, Greater, refl, subst, arith, Bool, true, false}
+use Rattle.std.proofs.Common.{◌≡◌, ℕ, zero, suc, ◌+◌, ◌≤◌, List, [], ◌∷◌, length, Option, Some, None, option_map, option_and_then, Ordering, Less}
+use Rattle.std.proofs.Common.{Equal, Greater, refl, subst, arith, Bool, true, false}
 use Rattle.std.specs.Prelude.{⊤}
 use Rattle.std.specs.Ordering.{match_ordering, nat_cmp}
 use Rattle.std.specs.Cmp.Lexicographic.{slice_cmp}
 use Rattle.json.specs.Token.{Token, begin_object, end_object, begin_array, end_array, key, string, number, boolean, null, bad}
-use Rattle.json.specs.Lex.{Lexeme, token, comma, colon, Class, quote, backslash, operator, space, other, class, Mode, between, in_word, in_string, in_escape, lex_byte, lex, Place, fresh, after_value, after_comma, after_key, begins_colon, may_begin, may_close, if_allowed, place_token, punctuate, tokens}
+use Rattle.json.specs.Lex.{Lexeme, token, comma, colon, Class, quote, backslash, operator, space, other, class, Mode, between, in_word, in_string}
+use Rattle.json.specs.Lex.{in_escape, lex_byte, lex, Place, fresh, after_value, after_comma, after_key, begins_colon, may_begin, may_close}
+use Rattle.json.specs.Lex.{if_allowed, place_token, punctuate, tokens}
 use Rattle.json.specs.Json as json
 use Rattle.serde_json.specs.Data as tree
 use Rattle.serde_json.specs.Data.{Data, Items, no_items, item, Members, no_members, member, put}
@@ -47,7 +50,8 @@ abbrev mutual
   text_members (json.member k j ms) = text_weight j + text_members ms
 
 -- ---- tokens: no more than one for each byte, and one at the end
-lex_step : (m : Mode) (c : Class) (x : ℕ) (xs : List ℕ) (k : Mode → List Lexeme) (n : ℕ) → ((next : Mode) → length (k next) ≤ n) → length (lex_byte m c x xs k) ≤ suc n
+lex_step : (m : Mode) (c : Class) (x : ℕ) (xs : List ℕ) (k : Mode → List Lexeme) (n : ℕ) → ((next : Mode) → length (k next) ≤ n)
+    → length (lex_byte m c x xs k) ≤ suc n
 lex_step between quote x xs k n h = let a = h in_string in omega arith
 lex_step between backslash x xs k n h = let a = h in_word in omega arith
 lex_step between operator x xs k n h = let a = h between in omega arith
@@ -118,7 +122,8 @@ abbrev Fewer : ℕ → Option (List Token) → Type 0
 Fewer n None = ⊤
 Fewer n (Some r) = length r ≤ n
 
-mapped : {A B : Type 0} (f : A → ℕ) (g : B → ℕ) (m n : ℕ) (h : A → B) → ((a : A) (r : ℕ) → f a + r ≤ m → g (h a) + r ≤ n) → (o : Option (A × List Token)) → Left f m o → Left g n (json.parse_map h o)
+mapped : {A B : Type 0} (f : A → ℕ) (g : B → ℕ) (m n : ℕ) (h : A → B) → ((a : A) (r : ℕ) → f a + r ≤ m → g (h a) + r ≤ n)
+    → (o : Option (A × List Token)) → Left f m o → Left g n (json.parse_map h o)
 mapped f g m n h k None x = tt
 mapped f g m n h k (Some p) x = k p.0 (length p.1) x
 
@@ -126,7 +131,8 @@ weaker : {A : Type 0} (f : A → ℕ) (m n : ℕ) → m ≤ n → (o : Option (A
 weaker f m n le None x = tt
 weaker f m n le (Some p) x = omega arith
 
-and_more : {B : Type 0} (g : B → ℕ) (n : ℕ) (h : json.Json → B → B) → ((j : json.Json) (b : B) → g (h j b) ≡ text_weight j + g b) → (more : json.Parse B) → ((ts : List Token) → Left g (length ts) (more ts))
+and_more : {B : Type 0} (g : B → ℕ) (n : ℕ) (h : json.Json → B → B) → ((j : json.Json) (b : B) → g (h j b) ≡ text_weight j + g b)
+    → (more : json.Parse B) → ((ts : List Token) → Left g (length ts) (more ts))
     → (o : Option (json.Json × List Token)) → Left text_weight n o → Left g n (option_and_then (λ q. json.parse_map (h q.0) (more q.1)) o)
 and_more g n h is more within None x = tt
 and_more g n h is more within (Some q) x = mapped g g (length q.1) n (h q.0) (λ b r y. omega (arith, is q.0 b)) (more q.1) (within q.1)
@@ -158,7 +164,8 @@ keyed (null ∷ ts) = tt
 keyed (bad ∷ ts) = tt
 
 module _ (p : json.Parse json.Json) (within : (ts : List Token) → Left text_weight (length ts) (p ts)) where
-  item_turn : (more : json.Parse json.Items) → ((ts : List Token) → Left text_items (length ts) (more ts)) → (ts : List Token) (o : Option (List Token)) → Fewer (length ts) o → Left text_items (length ts) (json.items_step p more ts o)
+  item_turn : (more : json.Parse json.Items) → ((ts : List Token) → Left text_items (length ts) (more ts))
+      → (ts : List Token) (o : Option (List Token)) → Fewer (length ts) o → Left text_items (length ts) (json.items_step p more ts o)
   item_turn more again ts (Some r) f = omega arith
   item_turn more again ts None f = and_more text_items (length ts) json.item (λ j b. refl) more again (p ts) (within ts)
 
@@ -167,18 +174,21 @@ module _ (p : json.Parse json.Json) (within : (ts : List Token) → Left text_we
   items_left zero ts = tt
   items_left (suc n) ts = item_turn (json.items p n) (items_left n) ts (json.after_end_array ts) (closed ts)
 
-  member_turn : (more : json.Parse json.Members) → ((ts : List Token) → Left text_members (length ts) (more ts)) → (n : ℕ) (o : Option (Option (List ℕ) × List Token)) → Left (λ _. 0) n o
+  member_turn : (more : json.Parse json.Members) → ((ts : List Token) → Left text_members (length ts) (more ts))
+      → (n : ℕ) (o : Option (Option (List ℕ) × List Token)) → Left (λ _. 0) n o
       → Left text_members n (option_and_then (λ q. json.members_step p more q.0 q.1) o)
   member_turn more again n None f = tt
   member_turn more again n (Some (None, s)) f = omega arith
-  member_turn more again n (Some (Some k, s)) f = weaker text_members (length s) n (omega arith) _ (and_more text_members (length s) (json.member k) (λ j b. refl) more again (p s) (within s))
+  member_turn more again n (Some (Some k, s)) f =
+      weaker text_members (length s) n (omega arith) _ (and_more text_members (length s) (json.member k) (λ j b. refl) more again (p s) (within s))
 
   members_left : (n : ℕ) (ts : List Token) → Left text_members (length ts) (json.members p n ts)
   unfolding json.members
   members_left zero ts = tt
   members_left (suc n) ts = member_turn (json.members p n) (members_left n) (length ts) (json.read_key ts) (keyed ts)
 
-one_level : (a : json.Parse json.Items) (o : json.Parse json.Members) → ((ts : List Token) → Left text_items (length ts) (a ts)) → ((ts : List Token) → Left text_members (length ts) (o ts)) → (ts : List Token) → Left text_weight (length ts) (json.value_with a o ts)
+one_level : (a : json.Parse json.Items) (o : json.Parse json.Members) → ((ts : List Token) → Left text_items (length ts) (a ts))
+    → ((ts : List Token) → Left text_members (length ts) (o ts)) → (ts : List Token) → Left text_weight (length ts) (json.value_with a o ts)
 one_level a o p q [] = tt
 one_level a o p q (begin_object ∷ ts) = mapped text_members text_weight (length ts) (suc (length ts)) json.object (λ ms r x. omega arith) (o ts) (q ts)
 one_level a o p q (end_object ∷ ts) = tt
@@ -203,11 +213,13 @@ abbrev AtMost : {A : Type 0} → (A → ℕ) → ℕ → Option A → Type 0
 AtMost f n None = ⊤
 AtMost f n (Some a) = f a ≤ n
 
-most_map : {A B : Type 0} (f : A → ℕ) (g : B → ℕ) (m n : ℕ) (h : A → B) → ((a : A) → f a ≤ m → g (h a) ≤ n) → (o : Option A) → AtMost f m o → AtMost g n (option_map h o)
+most_map : {A B : Type 0} (f : A → ℕ) (g : B → ℕ) (m n : ℕ) (h : A → B) → ((a : A) → f a ≤ m → g (h a) ≤ n) → (o : Option A) → AtMost f m o
+    → AtMost g n (option_map h o)
 most_map f g m n h k None x = tt
 most_map f g m n h k (Some a) x = k a x
 
-most_then : {A B : Type 0} (f : A → ℕ) (g : B → ℕ) (m n : ℕ) (h : A → Option B) → ((a : A) → f a ≤ m → AtMost g n (h a)) → (o : Option A) → AtMost f m o → AtMost g n (option_and_then h o)
+most_then : {A B : Type 0} (f : A → ℕ) (g : B → ℕ) (m n : ℕ) (h : A → Option B) → ((a : A) → f a ≤ m → AtMost g n (h a)) → (o : Option A)
+    → AtMost f m o → AtMost g n (option_and_then h o)
 most_then f g m n h k None x = tt
 most_then f g m n h k (Some a) x = k a x
 
@@ -219,7 +231,8 @@ flat : {A : Type 0} (o : Option A) → AtMost (λ _. 0) 0 o
 flat None = tt
 flat (Some a) = omega arith
 
-ordered : (o : Ordering) (a b c : Members) (n : ℕ) → members_weight a ≤ n → members_weight b ≤ n → members_weight c ≤ n → members_weight (match_ordering o a b c) ≤ n
+ordered : (o : Ordering) (a b c : Members) (n : ℕ) → members_weight a ≤ n → members_weight b ≤ n → members_weight c ≤ n
+    → members_weight (match_ordering o a b c) ≤ n
 ordered Less a b c n p q r = p
 ordered Equal a b c n p q r = q
 ordered Greater a b c n p q r = r
@@ -237,18 +250,23 @@ mutual
   json_weight (json.number s) = most_map (λ _. 0) weight 0 1 tree.number (λ a x. omega arith) (number_of s) (flat _)
   json_weight (json.string s) = omega arith
   json_weight (json.array js) = most_map items_weight weight (text_items js) (suc (text_items js)) tree.array (λ a x. omega arith) (of_items js) (json_items js)
-  json_weight (json.object ms) = most_map members_weight weight (text_members ms) (suc (text_members ms)) tree.object (λ a x. omega arith) (of_members ms no_members) (most_weaker members_weight _ _ (omega arith) _ (json_members ms no_members))
+  json_weight (json.object ms) =
+      most_map members_weight weight (text_members ms) (suc (text_members ms)) tree.object (λ a x. omega arith) (of_members ms no_members)
+      (most_weaker members_weight _ _ (omega arith) _ (json_members ms no_members))
 
   json_items : (js : json.Items) → AtMost items_weight (text_items js) (of_items js)
   json_items json.no_items = omega arith
   json_items (json.item j js) =
-      most_then weight items_weight (text_weight j) (text_weight j + text_items js) _ (λ d x. most_map items_weight items_weight (text_items js) (text_weight j + text_items js) (item d) (λ ds y. omega arith) _ (json_items js)) _ (json_weight j)
+      most_then weight items_weight (text_weight j) (text_weight j + text_items js) _
+      (λ d x. most_map items_weight items_weight (text_items js) (text_weight j + text_items js) (item d) (λ ds y. omega arith) _ (json_items js))
+      _ (json_weight j)
 
   json_members : (ms : json.Members) (found : Members) → AtMost members_weight (text_members ms + members_weight found) (of_members ms found)
   json_members json.no_members found = omega arith
   json_members (json.member k j ms) found =
       most_then weight members_weight (text_weight j) (text_weight j + text_members ms + members_weight found) _
-      (λ d x. most_weaker members_weight (text_members ms + members_weight (put k d found)) _ (omega (arith, put_weight k d found)) _ (json_members ms (put k d found))) _ (json_weight j)
+      (λ d x. most_weaker members_weight (text_members ms + members_weight (put k d found)) _ (omega (arith, put_weight k d found)) _
+      (json_members ms (put k d found))) _ (json_weight j)
 
 last : (n : ℕ) (o : Option (json.Json × List Token)) → Left text_weight n o → AtMost text_weight n (option_and_then (λ p. json.if_last p.0 p.1) o)
 last n None h = tt
@@ -257,7 +275,8 @@ last n (Some (j, t ∷ ts)) h = tt
 
 read_most : (text : List ℕ) → AtMost weight (suc (length text)) (read text)
 read_most text =
-    most_then text_weight weight (length (tokens text)) (suc (length text)) of_json (λ j x. most_weaker weight (text_weight j) _ (let a = few_tokens text in omega arith) _ (json_weight j)) _
+    most_then text_weight weight (length (tokens text)) (suc (length text)) of_json
+    (λ j x. most_weaker weight (text_weight j) _ (let a = few_tokens text in omega arith) _ (json_weight j)) _
     (last (length (tokens text)) _ (value_left max_depth (tokens text)))
 
 pub read_weight : (text : List ℕ) (d : Data) → read text ≡ Some d → weight d ≤ suc (length text)

@@ -1,5 +1,6 @@
 -- A JSON value seen as its data, level by level, and the next of a list of values.
-use Rattle.std.proofs.Common.{◌≡◌, ℕ, Bool, false, Some, None, List, [], ◌∷◌, refl, sym, ap, subst, ◌∙◌, rules, string_bytes, drop, get_or, length, add-one, drop-cons, ◌+◌, ◌<◌, ◌≤◌, suc, zero, arith}
+use Rattle.std.proofs.Common.{◌≡◌, ℕ, Bool, false, Some, None, List, [], ◌∷◌, refl, sym, ap, subst, ◌∙◌, rules, string_bytes, drop, get_or, length}
+use Rattle.std.proofs.Common.{add-one, drop-cons, ◌+◌, ◌<◌, ◌≤◌, suc, zero, arith}
 use Rattle.serde_json.specs.Data.{Data, null, boolean, number, string, array, object}
 use Rattle.serde_json.specs.declared.value.Value.{Value}
 use Rattle.serde_json.specs.declared.value.Value as value

@@ -8,7 +8,8 @@ use Rattle.ecore_json.specs.declared.table.Shape.{Shape}
 use Rattle.ecore_json.specs.declared.table.Position.{Position}
 use Rattle.ecore_meta.specs.Names.{Name}
 use Rattle.ecore_json.specs.Table.{wants, required}
-use Rattle.ecore_json.specs.Walk.{«then», fails, shape_at, left_out, first_lacking, is_before, value_fault, shaped_fault, object_fault, array_fault, objects_fault, items_fault, keys_fault}
+use Rattle.ecore_json.specs.Walk.{«then», fails, shape_at, left_out, first_lacking, is_before, value_fault, shaped_fault, object_fault, array_fault}
+use Rattle.ecore_json.specs.Walk.{objects_fault, items_fault, keys_fault}
 
 -- ---- an object
 module _ (own : Name) (p : Position) where
@@ -36,17 +37,22 @@ module _ (own : Name) (p : Position) where
   unfolding object_fault
   object_is d ms is = subst (λ e. object_fault own p e ≡ shaped_fault (shape_at p e) e (λ s lacking. keys_fault own s lacking ms)) (sym is) refl
 
-  of_shape : (d : Data) (ms : Members) (o : Option Shape) → d ≡ object ms → shape_at p d ≡ o → object_fault own p d ≡ shaped_fault o d (λ s lacking. keys_fault own s lacking ms)
+  of_shape : (d : Data) (ms : Members) (o : Option Shape) → d ≡ object ms → shape_at p d ≡ o
+      → object_fault own p d ≡ shaped_fault o d (λ s lacking. keys_fault own s lacking ms)
   of_shape d ms o is shape = object_is d ms is ∙ ap (λ o. shaped_fault o d (λ s lacking. keys_fault own s lacking ms)) shape
 
   pub object_unknown : (d : Data) (ms : Members) → d ≡ object ms → shape_at p d ≡ None → Some BadKey ≡ object_fault own p d
   object_unknown d ms is shape = sym (of_shape d ms None is shape)
 
-  pub object_left_out : (d : Data) (ms : Members) (s : Shape) → d ≡ object ms → shape_at p d ≡ Some s → left_out s d ≡ true → Some LeftOut ≡ object_fault own p d
-  object_left_out d ms s is shape left = sym (of_shape d ms (Some s) is shape ∙ ap (λ (b : Bool). «then» (fails b LeftOut) (keys_fault own s (first_lacking (required s) d) ms)) left)
+  pub object_left_out : (d : Data) (ms : Members) (s : Shape) → d ≡ object ms → shape_at p d ≡ Some s → left_out s d ≡ true
+      → Some LeftOut ≡ object_fault own p d
+  object_left_out d ms s is shape left =
+      sym (of_shape d ms (Some s) is shape ∙ ap (λ (b : Bool). «then» (fails b LeftOut) (keys_fault own s (first_lacking (required s) d) ms)) left)
 
-  pub object_keys : (d : Data) (ms : Members) (s : Shape) → d ≡ object ms → shape_at p d ≡ Some s → left_out s d ≡ false → keys_fault own s (first_lacking (required s) d) ms ≡ object_fault own p d
-  object_keys d ms s is shape left = sym (of_shape d ms (Some s) is shape ∙ ap (λ (b : Bool). «then» (fails b LeftOut) (keys_fault own s (first_lacking (required s) d) ms)) left)
+  pub object_keys : (d : Data) (ms : Members) (s : Shape) → d ≡ object ms → shape_at p d ≡ Some s → left_out s d ≡ false
+      → keys_fault own s (first_lacking (required s) d) ms ≡ object_fault own p d
+  object_keys d ms s is shape left =
+      sym (of_shape d ms (Some s) is shape ∙ ap (λ (b : Bool). «then» (fails b LeftOut) (keys_fault own s (first_lacking (required s) d) ms)) left)
 
   -- ---- an array of objects, or one
   pub objects_array : (d : Data) (ds : Items) → d ≡ array ds → items_fault own p ds ≡ objects_fault own p d
@@ -57,11 +63,13 @@ module _ (own : Name) (p : Position) where
   objects_one d f none is = is ∙ sym (ap (λ (o : Option Items). cond (is_some o) (array_fault own p d) (object_fault own p d)) none)
 
   -- ---- the objects of an array
-  pub items_found : (all rest : Items) (d : Data) (ds : Items) (f : WalkFault) → items_fault own p all ≡ items_fault own p rest → rest ≡ item d ds → object_fault own p d ≡ Some f → Some f ≡ items_fault own p all
+  pub items_found : (all rest : Items) (d : Data) (ds : Items) (f : WalkFault) → items_fault own p all ≡ items_fault own p rest → rest ≡ item d ds
+      → object_fault own p d ≡ Some f → Some f ≡ items_fault own p all
   unfolding items_fault
   items_found all rest d ds f so is at = sym (so ∙ ap (items_fault own p) is ∙ ap (λ o. «then» o (items_fault own p ds)) at)
 
-  pub items_on : (all rest : Items) (d : Data) (ds : Items) → items_fault own p all ≡ items_fault own p rest → rest ≡ item d ds → object_fault own p d ≡ None → items_fault own p all ≡ items_fault own p ds
+  pub items_on : (all rest : Items) (d : Data) (ds : Items) → items_fault own p all ≡ items_fault own p rest → rest ≡ item d ds
+      → object_fault own p d ≡ None → items_fault own p all ≡ items_fault own p ds
   unfolding items_fault
   items_on all rest d ds so is at = so ∙ ap (items_fault own p) is ∙ ap (λ o. «then» o (items_fault own p ds)) at
 

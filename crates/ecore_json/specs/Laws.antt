@@ -19,4 +19,5 @@ supers_of d = let rows = (rows_of d).classifiers in supers_in rows rows
 
 -- A class of such a metamodel is another exactly where the supertypes that the text's package names lead there.
 abbrev pub SupertypesAreRead : Type 0
-SupertypesAreRead = (text : List ℕ) (meta : Meta) → metamodel_of text ≡ Ok meta → (d : Data) → option_and_then package_of (read text) ≡ Some d → Chains (supers_of d) meta
+SupertypesAreRead = (text : List ℕ) (meta : Meta) → metamodel_of text ≡ Ok meta → (d : Data) → option_and_then package_of (read text) ≡ Some d
+    → Chains (supers_of d) meta

@@ -2,8 +2,10 @@
 use Rattle.std.specs.Prelude.{ℕ, List, [], ◌∷◌, codes, Option, Some, None, cond}
 use Rattle.std.specs.Str.{bytes_eq}
 use Rattle.ecore_json.specs.declared.table.Shape.{Shape}
-use Rattle.ecore_json.specs.declared.table.Shape.TheVariants.{Package, Class, Enum, DataType, Literal as OfLiteral, Attribute, Reference, TypeLink, OppositeLink}
-use Rattle.ecore_json.specs.declared.table.Position.TheVariants.{Classifier, Feature, Literal as InLiterals, TypeLink as OfTypeLink, OppositeLink as OfOppositeLink}
+use Rattle.ecore_json.specs.declared.table.Shape.TheVariants.{Package, Class, Enum, DataType, Literal as OfLiteral, Attribute, Reference, TypeLink}
+use Rattle.ecore_json.specs.declared.table.Shape.TheVariants.{OppositeLink}
+use Rattle.ecore_json.specs.declared.table.Position.TheVariants.{Classifier, Feature, Literal as InLiterals, TypeLink as OfTypeLink}
+use Rattle.ecore_json.specs.declared.table.Position.TheVariants.{OppositeLink as OfOppositeLink}
 use Rattle.ecore_json.specs.declared.table.ValueKind.TheVariants.{Anything, Flag, Whole, Text, Name, FeatureName, TypeReference, OppositeReference}
 use Rattle.ecore_json.specs.declared.table.Wanted.{Wanted}
 use Rattle.ecore_json.specs.declared.table.Wanted.TheVariants.{Value, Object, Objects}

@@ -13,7 +13,8 @@ use Rattle.ecore_json.specs.declared.fault.WalkFault.TheVariants.{BadKey, LeftOu
 use Rattle.ecore_json.specs.declared.table.Shape.{Shape}
 use Rattle.ecore_json.specs.declared.table.Shape.TheVariants.{Package, Class, Enum, DataType, Literal, Attribute, Reference, TypeLink, OppositeLink}
 use Rattle.ecore_json.specs.declared.table.Position.{Position}
-use Rattle.ecore_json.specs.declared.table.Position.TheVariants.{Root, Classifier, Feature, Literal as InLiterals, TypeLink as OfTypeLink, OppositeLink as OfOppositeLink}
+use Rattle.ecore_json.specs.declared.table.Position.TheVariants.{Root, Classifier, Feature, Literal as InLiterals, TypeLink as OfTypeLink}
+use Rattle.ecore_json.specs.declared.table.Position.TheVariants.{OppositeLink as OfOppositeLink}
 use Rattle.ecore_json.specs.declared.table.ValueKind.{ValueKind}
 use Rattle.ecore_json.specs.declared.table.ValueKind.TheVariants.{Anything, Flag, Whole, Text, Name as OfName, FeatureName, TypeReference, OppositeReference}
 use Rattle.ecore_json.specs.declared.table.Wanted.{Wanted}

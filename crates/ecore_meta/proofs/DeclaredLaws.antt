@@ -10,10 +10,12 @@ use Rattle.ecore_meta.specs.declared.meta.Feature.{Feature}
 use Rattle.ecore_meta.proofs.RisingLaws.{in_kept}
 
 pub has_any : (meta : Meta) (c f : ℕ) → has_feature meta c f ≡ list_any (nat_eq f) (features_of meta c)
-has_any meta c f = elim (slice_get meta.classes c) as (λ x. option_map_or (λ (class : Class). list_any (nat_eq f) class.features) x false ≡ list_any (nat_eq f) (option_map_or (λ (class : Class). class.features) x [])) [
-  | None ↦ refl
-  | Some k ↦ refl
-]
+has_any meta c f = elim (slice_get meta.classes c) as (λ x.
+    option_map_or (λ (class : Class). list_any (nat_eq f) class.features) x false ≡ list_any (nat_eq f)
+    (option_map_or (λ (class : Class). class.features) x [])) [
+      | None ↦ refl
+      | Some k ↦ refl
+    ]
 
 low_feature : (fs : List Feature) (f : ℕ) (h : Feature → Bool) → option_map_or h (slice_get fs f) false ≡ true → f < length fs
 low_feature [] f h e = cc

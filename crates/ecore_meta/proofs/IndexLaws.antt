@@ -1,5 +1,6 @@
 -- Indexes of names, one name or one enum more.
-use Rattle.std.proofs.Common.{String, ◌≡◌, ℕ, zero, suc, ◌+◌, ◌<◌, Bool, true, false, cond, List, [], ◌∷◌, ◌++◌, refl, sym, ap, subst, ◌∙◌, arith, length, map, take, get_or}
+use Rattle.std.proofs.Common.{String, ◌≡◌, ℕ, zero, suc, ◌+◌, ◌<◌, Bool, true, false, cond, List, [], ◌∷◌, ◌++◌, refl, sym, ap, subst, ◌∙◌, arith}
+use Rattle.std.proofs.Common.{length, map, take, get_or}
 use Rattle.std.specs.Prelude.{Option, None, Some, is_some, slice_get}
 use Rattle.std.specs.BTreeMap.{BTreeMap, get_by_text}
 use Rattle.std.specs.Map.{update}
@@ -29,7 +30,8 @@ entered_there f x q n there = by_test (bytes_eq q x) refl
     by_test false e = sym (or_none (f q))
 
 -- a name that the index lacks, entered
-pub entered_new : (f : Name → Option ℕ) (x q z : Name) (n : ℕ) → z ≡ x → false ≡ is_some (f x) → update bytes_eq f z (Some n) q ≡ or_else (f q) (cond (bytes_eq q x) (Some n) None)
+pub entered_new : (f : Name → Option ℕ) (x q z : Name) (n : ℕ) → z ≡ x → false ≡ is_some (f x)
+    → update bytes_eq f z (Some n) q ≡ or_else (f q) (cond (bytes_eq q x) (Some n) None)
 entered_new f x q z n is new = ap (λ y. cond (bytes_eq y q) (Some n) (f q)) is ∙ by_test (bytes_eq x q) refl
   where
     by_test : (b : Bool) → bytes_eq x q ≡ b → cond b (Some n) (f q) ≡ or_else (f q) (cond (bytes_eq q x) (Some n) None)
@@ -42,28 +44,35 @@ entered_new f x q z n is new = ap (λ y. cond (bytes_eq y q) (Some n) (f q)) is 
         sym (ap (λ b. or_else (f q) (cond b (Some n) None)) t ∙ or_none (f q))
 
 -- the next name of a list, entered after those before it
-pub entered_more : {X : Type 0} (name : X → Name) (xs : List X) (i : ℕ) (d : X) → i < length xs → (g : Option ℕ) (q x : Name) → x ≡ name (get_or xs i d) → or_else (or_else g (number_of q (map name (take i xs)))) (cond (bytes_eq q x) (Some i) None) ≡ or_else g (number_of q (map name (take (i + 1) xs)))
+pub entered_more : {X : Type 0} (name : X → Name) (xs : List X) (i : ℕ) (d : X) → i < length xs → (g : Option ℕ) (q x : Name)
+    → x ≡ name (get_or xs i d)
+    → or_else (or_else g (number_of q (map name (take i xs)))) (cond (bytes_eq q x) (Some i) None) ≡ or_else g (number_of q (map name (take (i + 1) xs)))
 entered_more name xs i d h g q x is =
     ap (λ y. or_else (or_else g (number_of q (map name (take i xs)))) (cond (bytes_eq q y) (Some i) None)) is
     ∙ or_thrice g (number_of q (map name (take i xs))) (cond (bytes_eq q (name (get_or xs i d))) (Some i) None)
     ∙ ap (or_else g) (sym (ap (number_of q) (next_names name xs i d h)
     ∙ number_of-push q (name (get_or xs i d)) (map name (take i xs))
-    ∙ ap (λ (k : ℕ). or_else (number_of q (map name (take i xs))) (cond (bytes_eq q (name (get_or xs i d))) (Some k) None)) (length-map (take i xs) name ∙ length-take-le i xs (omega arith))))
+    ∙ ap (λ (k : ℕ). or_else (number_of q (map name (take i xs))) (cond (bytes_eq q (name (get_or xs i d))) (Some k) None))
+    (length-map (take i xs) name ∙ length-take-le i xs (omega arith))))
 
-known_push : {Y : Type 0} (es : List Enum) (ms : List (BTreeMap (String Y) ℕ)) (e : Enum) (m : BTreeMap (String Y) ℕ) → AllKnown es ms → ((q : Name) → get_by_text m q ≡ literal_in e.literals q) → AllKnown (es ++ e ∷ []) (ms ++ m ∷ [])
+known_push : {Y : Type 0} (es : List Enum) (ms : List (BTreeMap (String Y) ℕ)) (e : Enum) (m : BTreeMap (String Y) ℕ) → AllKnown es ms
+    → ((q : Name) → get_by_text m q ≡ literal_in e.literals q) → AllKnown (es ++ e ∷ []) (ms ++ m ∷ [])
 known_push [] [] e m known here = (here, tt)
 known_push [] (x ∷ ms) e m known here = absurd known
 known_push (x ∷ es) [] e m known here = absurd known
 known_push (x ∷ es) (y ∷ ms) e m known here = (known.0, known_push es ms e m known.1 here)
 
 -- the indexes of the enums so far, with the next
-pub known_more : {Y : Type 0} (es : List Enum) (i : ℕ) (d : Enum) (ms : List (BTreeMap (String Y) ℕ)) (m : BTreeMap (String Y) ℕ) (ns : List (BTreeMap (String Y) ℕ)) → ns ≡ ms ++ m ∷ [] → i < length es → AllKnown (take i es) ms → ((q : Name) → get_by_text m q ≡ literal_in (get_or es i d).literals q) → AllKnown (take (i + 1) es) ns
+pub known_more : {Y : Type 0} (es : List Enum) (i : ℕ) (d : Enum) (ms : List (BTreeMap (String Y) ℕ)) (m : BTreeMap (String Y) ℕ)
+    (ns : List (BTreeMap (String Y) ℕ)) → ns ≡ ms ++ m ∷ [] → i < length es → AllKnown (take i es) ms
+    → ((q : Name) → get_by_text m q ≡ literal_in (get_or es i d).literals q) → AllKnown (take (i + 1) es) ns
 known_more es i d ms m ns is h known here =
     subst (λ ks. AllKnown (take (i + 1) es) ks) (sym is)
     (subst (λ xs. AllKnown xs (ms ++ m ∷ [])) (sym (take_more es i d h)) (known_push (take i es) ms (get_or es i d) m known here))
 
 -- what the index of an enum says
-pub known_at : {Y : Type 0} (es : List Enum) (ms : List (BTreeMap (String Y) ℕ)) (e : ℕ) (q : Name) → AllKnown es ms → option_and_then (λ m. get_by_text m q) (slice_get ms e) ≡ literal_in (literals_at es e) q
+pub known_at : {Y : Type 0} (es : List Enum) (ms : List (BTreeMap (String Y) ℕ)) (e : ℕ) (q : Name) → AllKnown es ms
+    → option_and_then (λ m. get_by_text m q) (slice_get ms e) ≡ literal_in (literals_at es e) q
 known_at [] [] e q known = refl
 known_at [] (m ∷ ms) e q known = absurd known
 known_at (x ∷ es) [] e q known = absurd known

@@ -1,5 +1,6 @@
 -- Names in lists: one more at the end.
-use Rattle.std.proofs.Common.{◌≡◌, ℕ, suc, ◌+◌, ◌<◌, Bool, true, false, List, [], ◌∷◌, ◌++◌, ◌||◌, cond, refl, sym, ap, subst, ◌∙◌, arith, length, take, drop, get_or, map, rules}
+use Rattle.std.proofs.Common.{◌≡◌, ℕ, suc, ◌+◌, ◌<◌, Bool, true, false, List, [], ◌∷◌, ◌++◌, ◌||◌, cond, refl, sym, ap, subst, ◌∙◌, arith, length}
+use Rattle.std.proofs.Common.{take, drop, get_or, map, rules}
 use Rattle.std.specs.Prelude.{Option, None, Some, is_some}
 use Rattle.std.specs.List.{list_any}
 use Rattle.std.specs.Option.{option_map}
@@ -41,21 +42,26 @@ number_of-push q x (y ∷ ys) =
     ap (λ o. cond (bytes_eq q y) (Some 0) (option_map (λ n. suc n) o)) (number_of-push q x ys)
     ∙ by_tests (bytes_eq q y) (bytes_eq q x) (number_of q ys) (length ys)
   where
-    by_tests : (a b : Bool) (o : Option ℕ) (n : ℕ) → cond a (Some 0) (option_map (λ n. suc n) (or_else o (cond b (Some n) None))) ≡ or_else (cond a (Some 0) (option_map (λ n. suc n) o)) (cond b (Some (suc n)) None)
+    by_tests : (a b : Bool) (o : Option ℕ) (n : ℕ)
+        → cond a (Some 0) (option_map (λ n. suc n) (or_else o (cond b (Some n) None))) ≡ or_else (cond a (Some 0) (option_map (λ n. suc n) o))
+        (cond b (Some (suc n)) None)
     by_tests true b o n = refl
     by_tests false true None n = refl
     by_tests false false None n = refl
     by_tests false b (Some m) n = refl
 
 -- a name that an index is given at its end
-pub told_more : (x q : Name) (xs : List Name) (n : ℕ) (o : Option ℕ) → number_of x xs ≡ None → length xs ≡ n → o ≡ number_of q xs → cond (bytes_eq x q) (Some n) o ≡ number_of q (xs ++ x ∷ [])
+pub told_more : (x q : Name) (xs : List Name) (n : ℕ) (o : Option ℕ) → number_of x xs ≡ None → length xs ≡ n → o ≡ number_of q xs
+    → cond (bytes_eq x q) (Some n) o ≡ number_of q (xs ++ x ∷ [])
 told_more x q xs n o absent long is = by_test (bytes_eq x q) refl
   where
     by_test : (b : Bool) → bytes_eq x q ≡ b → cond b (Some n) o ≡ number_of q (xs ++ x ∷ [])
     by_test true e =
         let k : number_of q xs ≡ None = subst (λ z. number_of z xs ≡ None) (same x q e) absent in
         let t : bytes_eq q x ≡ true = sym (turned x q) ∙ e in
-        ap (λ (i : ℕ). Some i) (sym long) ∙ sym (number_of-push q x xs ∙ ap (λ o. or_else o (cond (bytes_eq q x) (Some (length xs)) None)) k ∙ ap (λ b. cond b (Some (length xs)) None) t)
+        ap (λ (i : ℕ). Some i) (sym long)
+        ∙ sym (number_of-push q x xs ∙ ap (λ o. or_else o (cond (bytes_eq q x) (Some (length xs)) None)) k
+        ∙ ap (λ b. cond b (Some (length xs)) None) t)
     by_test false e =
         let t : bytes_eq q x ≡ false = sym (turned x q) ∙ e in
         is ∙ sym (number_of-push q x xs ∙ ap (λ b. or_else (number_of q xs) (cond b (Some (length xs)) None)) t ∙ or_none (number_of q xs))
@@ -106,30 +112,38 @@ has_repeat-push (y ∷ ys) x =
     by_tests false false false (Some n) = refl
 
 -- the names so far, with the next
-pub next_names : {X : Type 0} (name : X → Name) (xs : List X) (i : ℕ) (d : X) → i < length xs → map name (take (i + 1) xs) ≡ map name (take i xs) ++ name (get_or xs i d) ∷ []
+pub next_names : {X : Type 0} (name : X → Name) (xs : List X) (i : ℕ) (d : X) → i < length xs
+    → map name (take (i + 1) xs) ≡ map name (take i xs) ++ name (get_or xs i d) ∷ []
 next_names name xs i d h = ap (map name) (take_more xs i d h) ∙ map-append name (take i xs) (get_or xs i d ∷ [])
 
 -- the next name stands among those so far, so the whole list repeats it
-pub repeat_found : {X : Type 0} (name : X → Name) (xs : List X) (i : ℕ) (d : X) → i < length xs → true ≡ is_some (number_of (name (get_or xs i d)) (map name (take i xs))) → has_repeat (map name xs) ≡ true
+pub repeat_found : {X : Type 0} (name : X → Name) (xs : List X) (i : ℕ) (d : X) → i < length xs
+    → true ≡ is_some (number_of (name (get_or xs i d)) (map name (take i xs))) → has_repeat (map name xs) ≡ true
 repeat_found name xs i d h found =
     subst (λ ys. has_repeat ys ≡ true) (sym (map-append name (take (i + 1) xs) (drop (i + 1) xs)) ∙ ap (map name) (take-append-drop (i + 1) xs))
     (has_repeat-append (map name (take (i + 1) xs)) (map name (drop (i + 1) xs))
-    (ap has_repeat (next_names name xs i d h) ∙ has_repeat-push (map name (take i xs)) (name (get_or xs i d)) ∙ ap (λ b. has_repeat (map name (take i xs)) || b) (sym found) ∙ or_true (has_repeat (map name (take i xs)))))
+    (ap has_repeat (next_names name xs i d h) ∙ has_repeat-push (map name (take i xs)) (name (get_or xs i d))
+    ∙ ap (λ b. has_repeat (map name (take i xs)) || b) (sym found) ∙ or_true (has_repeat (map name (take i xs)))))
 
 -- the next name is new, so the list so far still repeats none
-pub still_apart : {X : Type 0} (name : X → Name) (xs : List X) (i : ℕ) (d : X) → i < length xs → has_repeat (map name (take i xs)) ≡ false → false ≡ is_some (number_of (name (get_or xs i d)) (map name (take i xs))) → has_repeat (map name (take (i + 1) xs)) ≡ false
+pub still_apart : {X : Type 0} (name : X → Name) (xs : List X) (i : ℕ) (d : X) → i < length xs → has_repeat (map name (take i xs)) ≡ false
+    → false ≡ is_some (number_of (name (get_or xs i d)) (map name (take i xs))) → has_repeat (map name (take (i + 1) xs)) ≡ false
 still_apart name xs i d h apart new =
-    ap has_repeat (next_names name xs i d h) ∙ has_repeat-push (map name (take i xs)) (name (get_or xs i d)) ∙ ap (λ b. b || is_some (number_of (name (get_or xs i d)) (map name (take i xs)))) apart ∙ sym new
+    ap has_repeat (next_names name xs i d h) ∙ has_repeat-push (map name (take i xs)) (name (get_or xs i d))
+    ∙ ap (λ b. b || is_some (number_of (name (get_or xs i d)) (map name (take i xs)))) apart ∙ sym new
 
 pub none_of : (o : Option ℕ) → false ≡ is_some o → o ≡ None
 none_of None h = refl
 none_of (Some n) h = cc
 
 -- the index with the next name is that of the list so far
-pub still_told : {X : Type 0} (name : X → Name) (xs : List X) (i : ℕ) (d : X) → i < length xs → false ≡ is_some (number_of (name (get_or xs i d)) (map name (take i xs))) → (x : Name) → x ≡ name (get_or xs i d) → (f : Name → Option ℕ) → ((q : Name) → f q ≡ number_of q (map name (take i xs))) → (q : Name) → update bytes_eq f x (Some i) q ≡ number_of q (map name (take (i + 1) xs))
+pub still_told : {X : Type 0} (name : X → Name) (xs : List X) (i : ℕ) (d : X) → i < length xs
+    → false ≡ is_some (number_of (name (get_or xs i d)) (map name (take i xs))) → (x : Name) → x ≡ name (get_or xs i d) → (f : Name → Option ℕ)
+    → ((q : Name) → f q ≡ number_of q (map name (take i xs))) → (q : Name) → update bytes_eq f x (Some i) q ≡ number_of q (map name (take (i + 1) xs))
 still_told name xs i d h new x is f told q =
     ap (λ z. cond (bytes_eq z q) (Some i) (f q)) is
-    ∙ told_more (name (get_or xs i d)) q (map name (take i xs)) i (f q) (none_of _ new) (length-map (take i xs) name ∙ length-take-le i xs (omega arith)) (told q)
+    ∙ told_more (name (get_or xs i d)) q (map name (take i xs)) i (f q) (none_of _ new)
+    (length-map (take i xs) name ∙ length-take-le i xs (omega arith)) (told q)
     ∙ sym (ap (number_of q) (next_names name xs i d h))
 
 -- a number that a name has stays, whatever follows
@@ -137,13 +151,15 @@ number_of-kept : (q : Name) (xs ys : List Name) (n : ℕ) → number_of q xs ≡
 number_of-kept q [] ys n h = cc
 number_of-kept q (x ∷ xs) ys n h = by_test (bytes_eq q x) (number_of q xs) refl (λ m e. number_of-kept q xs ys m e) h
   where
-    by_test : (b : Bool) (o : Option ℕ) → number_of q xs ≡ o → ((m : ℕ) → number_of q xs ≡ Some m → number_of q (xs ++ ys) ≡ Some m) → cond b (Some 0) (option_map (λ n. suc n) o) ≡ Some n → cond b (Some 0) (option_map (λ n. suc n) (number_of q (xs ++ ys))) ≡ Some n
+    by_test : (b : Bool) (o : Option ℕ) → number_of q xs ≡ o → ((m : ℕ) → number_of q xs ≡ Some m → number_of q (xs ++ ys) ≡ Some m)
+        → cond b (Some 0) (option_map (λ n. suc n) o) ≡ Some n → cond b (Some 0) (option_map (λ n. suc n) (number_of q (xs ++ ys))) ≡ Some n
     by_test true o is more h = h
     by_test false None is more h = cc
     by_test false (Some m) is more h = ap (λ o. option_map (λ n. suc n) o) (more m is) ∙ h
 
 -- a name that is not among those so far has the number of its place
-pub first_place : {X : Type 0} (name : X → Name) (q : Name) (xs : List X) (i : ℕ) (d : X) → i < length xs → number_of q (map name (take i xs)) ≡ None → true ≡ bytes_eq (name (get_or xs i d)) q → Some i ≡ number_of q (map name xs)
+pub first_place : {X : Type 0} (name : X → Name) (q : Name) (xs : List X) (i : ℕ) (d : X) → i < length xs → number_of q (map name (take i xs)) ≡ None
+    → true ≡ bytes_eq (name (get_or xs i d)) q → Some i ≡ number_of q (map name xs)
 first_place name q xs i d h before equal =
     sym (ap (number_of q) (sym (ap (map name) (take-append-drop (i + 1) xs)) ∙ map-append name (take (i + 1) xs) (drop (i + 1) xs))
     ∙ number_of-kept q (map name (take (i + 1) xs)) (map name (drop (i + 1) xs)) i here)
@@ -157,7 +173,8 @@ first_place name q xs i d h before equal =
         ∙ ap (λ (n : ℕ). Some n) (length-map (take i xs) name ∙ length-take-le i xs (omega arith))
 
 -- a name that is not the next is still not among those so far
-pub still_absent : {X : Type 0} (name : X → Name) (q : Name) (xs : List X) (i : ℕ) (d : X) → i < length xs → number_of q (map name (take i xs)) ≡ None → false ≡ bytes_eq (name (get_or xs i d)) q → number_of q (map name (take (i + 1) xs)) ≡ None
+pub still_absent : {X : Type 0} (name : X → Name) (q : Name) (xs : List X) (i : ℕ) (d : X) → i < length xs → number_of q (map name (take i xs)) ≡ None
+    → false ≡ bytes_eq (name (get_or xs i d)) q → number_of q (map name (take (i + 1) xs)) ≡ None
 still_absent name q xs i d h before apart =
     ap (number_of q) (next_names name xs i d h)
     ∙ number_of-push q (name (get_or xs i d)) (map name (take i xs))
@@ -169,7 +186,8 @@ pub number_of-below : (q : Name) (xs : List Name) (n : ℕ) → number_of q xs �
 number_of-below q [] n h = cc
 number_of-below q (x ∷ xs) n h = by_test (bytes_eq q x) (number_of q xs) refl (λ m e. number_of-below q xs m e) h
   where
-    by_test : (b : Bool) (o : Option ℕ) → number_of q xs ≡ o → ((m : ℕ) → number_of q xs ≡ Some m → m < length xs) → cond b (Some 0) (option_map (λ n. suc n) o) ≡ Some n → n < suc (length xs)
+    by_test : (b : Bool) (o : Option ℕ) → number_of q xs ≡ o → ((m : ℕ) → number_of q xs ≡ Some m → m < length xs)
+        → cond b (Some 0) (option_map (λ n. suc n) o) ≡ Some n → n < suc (length xs)
     by_test true o is more h = let e : 0 ≡ n = same_some 0 n h in omega (arith, e)
     by_test false None is more h = cc
     by_test false (Some m) is more h = let e : suc m ≡ n = same_some (suc m) n h in let k : m < length xs = more m is in omega (arith, e, k)

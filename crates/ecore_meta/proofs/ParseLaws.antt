@@ -1,5 +1,6 @@
 -- What std's parse of a signed number of 64 bits says, in the words of the values.
-use Rattle.std.proofs.Common.{◌≡◌, ◌≢◌, ℕ, ℤ, zero, suc, ◌<◌, ◌≤◌, ◌^◌, Bool, true, false, List, [], ◌∷◌, cond, refl, sym, ap, subst, ◌∙◌, arith, length, drop, get_or, nat_eq, rules}
+use Rattle.std.proofs.Common.{◌≡◌, ◌≢◌, ℕ, ℤ, zero, suc, ◌<◌, ◌≤◌, ◌^◌, Bool, true, false, List, [], ◌∷◌, cond, refl, sym, ap, subst, ◌∙◌, arith}
+use Rattle.std.proofs.Common.{length, drop, get_or, nat_eq, rules}
 use Rattle.std.specs.Prelude.{pos, negsuc, neg_ℤ, Option, None, Some, Result, Ok, Err, nat_lt, FitsSigned, if◌then◌else◌, slice_index, slice_get, ◌^◌}
 use Rattle.std.specs.Str.{all_ascii_digits}
 use mir.Syntax.{w64}
@@ -51,14 +52,17 @@ below n h = grind (arith, nat_tests)
 is_below : (n : ℕ) → n < 9223372036854775808 → nat_lt n 9223372036854775808 ≡ true
 is_below n h = grind (arith, nat_tests)
 
-pub parsed_plain : {E : Type 0} (bs : List ℕ) (r : Result ℤ E) → ParsesSigned w64 10 bs r → get_or bs 0 0 ≢ 43 → get_or bs 0 0 ≢ 45 → ok_of r ≡ wide (cond (is_numeral bs) (Some (pos (digits_from 0 bs))) None)
+pub parsed_plain : {E : Type 0} (bs : List ℕ) (r : Result ℤ E) → ParsesSigned w64 10 bs r → get_or bs 0 0 ≢ 43 → get_or bs 0 0 ≢ 45
+    → ok_of r ≡ wide (cond (is_numeral bs) (Some (pos (digits_from 0 bs))) None)
 parsed_plain bs r h plus minus =
-    chosen r (pos (digits_from 0 bs)) (cond (is_numeral bs) (nat_lt (digits_from 0 bs) 9223372036854775808) false) (parse_signed_plain own w64 bs r h plus minus)
+    chosen r (pos (digits_from 0 bs)) (cond (is_numeral bs) (nat_lt (digits_from 0 bs) 9223372036854775808) false)
+    (parse_signed_plain own w64 bs r h plus minus)
     (λ q. rw (is_numeral_of bs q.0 q.1) (is_below _ q.2))
     (λ e. back (is_numeral bs) refl e)
     ∙ sym (wide_pos (is_numeral bs) (digits_from 0 bs))
   where
-    back : (b : Bool) → is_numeral bs ≡ b → cond b (nat_lt (digits_from 0 bs) 9223372036854775808) false ≡ true → (all_ascii_digits bs ≡ true) × (0 < length bs) × (digits_from 0 bs < 2 ^ 63)
+    back : (b : Bool) → is_numeral bs ≡ b → cond b (nat_lt (digits_from 0 bs) 9223372036854775808) false ≡ true
+        → (all_ascii_digits bs ≡ true) × (0 < length bs) × (digits_from 0 bs < 2 ^ 63)
     back true is e = let k = numeral bs is in (k.0, k.1, below _ e)
     back false is e = cc
 
@@ -79,14 +83,17 @@ most n h = grind (arith, nat_tests)
 is_most : (n : ℕ) → n ≤ 9223372036854775808 → nat_lt n 9223372036854775809 ≡ true
 is_most n h = grind (arith, nat_tests)
 
-parsed_minus : {E : Type 0} (bs : List ℕ) (r : Result ℤ E) → ParsesSigned w64 10 bs r → get_or bs 0 0 ≡ 45 → ok_of r ≡ wide (cond (is_numeral (drop 1 bs)) (Some (neg_ℤ (pos (digits_from 0 (drop 1 bs))))) None)
+parsed_minus : {E : Type 0} (bs : List ℕ) (r : Result ℤ E) → ParsesSigned w64 10 bs r → get_or bs 0 0 ≡ 45
+    → ok_of r ≡ wide (cond (is_numeral (drop 1 bs)) (Some (neg_ℤ (pos (digits_from 0 (drop 1 bs))))) None)
 parsed_minus bs r h minus =
-    chosen r (neg_ℤ (pos (digits_from 0 (drop 1 bs)))) (cond (is_numeral (drop 1 bs)) (nat_lt (digits_from 0 (drop 1 bs)) 9223372036854775809) false) (parse_signed_minus own w64 bs r h minus)
+    chosen r (neg_ℤ (pos (digits_from 0 (drop 1 bs)))) (cond (is_numeral (drop 1 bs)) (nat_lt (digits_from 0 (drop 1 bs)) 9223372036854775809) false)
+    (parse_signed_minus own w64 bs r h minus)
     (λ q. rw (is_numeral_of (drop 1 bs) q.0 q.1) (is_most _ q.2))
     (λ e. back (is_numeral (drop 1 bs)) refl e)
     ∙ sym (wide_neg (is_numeral (drop 1 bs)) (digits_from 0 (drop 1 bs)))
   where
-    back : (b : Bool) → is_numeral (drop 1 bs) ≡ b → cond b (nat_lt (digits_from 0 (drop 1 bs)) 9223372036854775809) false ≡ true → (all_ascii_digits (drop 1 bs) ≡ true) × (0 < length (drop 1 bs)) × (digits_from 0 (drop 1 bs) ≤ 2 ^ 63)
+    back : (b : Bool) → is_numeral (drop 1 bs) ≡ b → cond b (nat_lt (digits_from 0 (drop 1 bs)) 9223372036854775809) false ≡ true
+        → (all_ascii_digits (drop 1 bs) ≡ true) × (0 < length (drop 1 bs)) × (digits_from 0 (drop 1 bs) ≤ 2 ^ 63)
     back true is e = let k = numeral (drop 1 bs) is in (k.0, k.1, most _ e)
     back false is e = cc
 
@@ -102,7 +109,9 @@ unfolding whole_of
 parsed [] r h plus = parsed_plain [] r h (λ e. cc) (λ e. cc)
 parsed (b ∷ bs) r h plus = by_sign (nat_eq b 45) refl
   where
-    by_sign : (t : Bool) → nat_eq b 45 ≡ t → ok_of r ≡ wide (if t then cond (is_numeral bs) (Some (neg_ℤ (pos (digits_from 0 bs)))) None else cond (is_numeral (b ∷ bs)) (Some (pos (digits_from 0 (b ∷ bs)))) None)
+    by_sign : (t : Bool) → nat_eq b 45 ≡ t
+        → ok_of r ≡ wide (if t then cond (is_numeral bs) (Some (neg_ℤ (pos (digits_from 0 bs)))) None else cond (is_numeral (b ∷ bs))
+        (Some (pos (digits_from 0 (b ∷ bs)))) None)
     by_sign true e = parsed_minus (b ∷ bs) r h (nat_same b 45 e)
     by_sign false e = parsed_plain (b ∷ bs) r h (nat_apart b 43 (sym plus)) (nat_apart b 45 e)
 
@@ -112,8 +121,12 @@ unfolding whole_of
 plus_none [] h = cc
 plus_none (b ∷ bs) h = by_byte b (nat_same b 43 (sym h))
   where
-    by_byte : (b : ℕ) → b ≡ 43 → None ≡ wide (if nat_eq b 45 then cond (is_numeral bs) (Some (neg_ℤ (pos (digits_from 0 bs)))) None else cond (is_numeral (b ∷ bs)) (Some (pos (digits_from 0 (b ∷ bs)))) None)
-    by_byte b e = subst (λ x. None ≡ wide (if nat_eq x 45 then cond (is_numeral bs) (Some (neg_ℤ (pos (digits_from 0 bs)))) None else cond (is_numeral (x ∷ bs)) (Some (pos (digits_from 0 (x ∷ bs)))) None)) (sym e) refl
+    by_byte : (b : ℕ) → b ≡ 43
+        → None ≡ wide (if nat_eq b 45 then cond (is_numeral bs) (Some (neg_ℤ (pos (digits_from 0 bs)))) None else cond (is_numeral (b ∷ bs))
+        (Some (pos (digits_from 0 (b ∷ bs)))) None)
+    by_byte b e = subst (λ x.
+        None ≡ wide (if nat_eq x 45 then cond (is_numeral bs) (Some (neg_ℤ (pos (digits_from 0 bs)))) None else cond (is_numeral (x ∷ bs))
+        (Some (pos (digits_from 0 (x ∷ bs)))) None)) (sym e) refl
 
 -- the number that was read fits 64 bits
 pub fits_64 : {E : Type 0} (bs : List ℕ) (r : Result ℤ E) → ParsesSigned w64 10 bs r → (n : ℤ) → r ≡ Ok n → FitsSigned w64 n

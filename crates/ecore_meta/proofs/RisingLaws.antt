@@ -1,5 +1,6 @@
 -- Lists of numbers that rise.
-use Rattle.std.proofs.Common.{◌≡◌, ℕ, zero, suc, ◌+◌, ◌<◌, ◌≤◌, Bool, true, false, List, [], ◌∷◌, ◌||◌, ◌&&◌, refl, sym, ap, subst, ◌∙◌, arith, nat_eq, Less, rules}
+use Rattle.std.proofs.Common.{◌≡◌, ℕ, zero, suc, ◌+◌, ◌<◌, ◌≤◌, Bool, true, false, List, [], ◌∷◌, ◌||◌, ◌&&◌, refl, sym, ap, subst, ◌∙◌, arith}
+use Rattle.std.proofs.Common.{nat_eq, Less, rules}
 use Rattle.std.specs.List.{list_any, filter, range_with_len, AllByRecursion}
 use Rattle.std.specs.List.Sorted.{IsStrictlySortedBy}
 use Rattle.std.specs.Ordering.{nat_cmp}
@@ -24,14 +25,16 @@ after x d (y ∷ ys) all h = or_split (nat_eq d y) (list_any (nat_eq d) ys) h
     (λ e. after x d ys all.1 e)
 
 -- rising lists with the same members are one
-pub same_rising : (xs ys : List ℕ) → IsStrictlySortedBy nat_cmp xs → IsStrictlySortedBy nat_cmp ys → ((d : ℕ) → list_any (nat_eq d) xs ≡ list_any (nat_eq d) ys) → xs ≡ ys
+pub same_rising : (xs ys : List ℕ) → IsStrictlySortedBy nat_cmp xs → IsStrictlySortedBy nat_cmp ys
+    → ((d : ℕ) → list_any (nat_eq d) xs ≡ list_any (nat_eq d) ys) → xs ≡ ys
 unfolding IsStrictlySortedBy
 same_rising [] [] r s h = refl
 same_rising [] (y ∷ ys) r s h = let e : false ≡ true = h y ∙ or_left (nat_eq y y) _ (nat_itself y) in cc
 same_rising (x ∷ xs) [] r s h = let e : true ≡ false = sym (or_left (nat_eq x x) _ (nat_itself x)) ∙ h x in cc
 same_rising (x ∷ xs) (y ∷ ys) r s h =
     let same : x ≡ y = first in
-    ap (λ z. z ∷ xs) same ∙ ap (λ zs. y ∷ zs) (same_rising xs ys r.1 s.1 (λ d. same_bool (list_any (nat_eq d) xs) (list_any (nat_eq d) ys) (forth same d) (back same d)))
+    ap (λ z. z ∷ xs) same ∙ ap (λ zs. y ∷ zs)
+    (same_rising xs ys r.1 s.1 (λ d. same_bool (list_any (nat_eq d) xs) (list_any (nat_eq d) ys) (forth same d) (back same d)))
   where
     in_second : list_any (nat_eq x) (y ∷ ys) ≡ true
     in_second = sym (h x) ∙ or_left (nat_eq x x) _ (nat_itself x)
@@ -73,7 +76,8 @@ pub in_range : (a n d : ℕ) → a ≤ d → d < a + n → list_any (nat_eq d) (
 in_range a zero d h k = absurd (omega arith)
 in_range a (suc n) d h k = by_first (nat_eq d a) refl (λ e. in_range (a + 1) n d (apart a d h e) (omega arith))
   where
-    by_first : (b : Bool) → nat_eq d a ≡ b → (nat_eq d a ≡ false → list_any (nat_eq d) (range_with_len (a + 1) n) ≡ true) → b || list_any (nat_eq d) (range_with_len (a + 1) n) ≡ true
+    by_first : (b : Bool) → nat_eq d a ≡ b → (nat_eq d a ≡ false → list_any (nat_eq d) (range_with_len (a + 1) n) ≡ true)
+        → b || list_any (nat_eq d) (range_with_len (a + 1) n) ≡ true
     by_first true e more = refl
     by_first false e more = more e
 
@@ -89,10 +93,12 @@ keys_any d [] = refl
 keys_any d (k ∷ ks) = ap (λ b. b || list_any (is_at (nat_cmp d)) ks) (at_is d k) ∙ ap (λ b. nat_eq d k || b) (keys_any d ks)
 
 -- the keys of a set are the numbers below n that it has, in order
-pub keys_are : (s : BTreeSet ℕ) (p : ℕ → Bool) (n : ℕ) → IsStrictlySortedBy nat_cmp s.keys → ((d : ℕ) → contains nat_cmp s d ≡ p d) → ((d : ℕ) → p d ≡ true → d < n) → s.keys ≡ filter p (range_with_len 0 n)
+pub keys_are : (s : BTreeSet ℕ) (p : ℕ → Bool) (n : ℕ) → IsStrictlySortedBy nat_cmp s.keys → ((d : ℕ) → contains nat_cmp s d ≡ p d)
+    → ((d : ℕ) → p d ≡ true → d < n) → s.keys ≡ filter p (range_with_len 0 n)
 keys_are s p n rising has below =
     same_rising s.keys (filter p (range_with_len 0 n)) rising (IsStrictlySortedBy-filter nat_cmp p (range_with_len 0 n) (rising_range 0 n))
-    (λ d. sym (keys_any d s.keys) ∙ has d ∙ by_test d (p d) refl ∙ sym (any-filter_same (nat_eq d) p (p d) (λ k e. ap p (sym (nat_same d k e))) (range_with_len 0 n)))
+    (λ d. sym (keys_any d s.keys) ∙ has d ∙ by_test d (p d) refl
+    ∙ sym (any-filter_same (nat_eq d) p (p d) (λ k e. ap p (sym (nat_same d k e))) (range_with_len 0 n)))
   where
     by_test : (d : ℕ) (b : Bool) → p d ≡ b → b ≡ b && list_any (nat_eq d) (range_with_len 0 n)
     by_test d true e = sym (in_range 0 n d (omega arith) (omega (arith, below d e)))

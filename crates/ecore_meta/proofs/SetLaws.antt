@@ -8,7 +8,8 @@ use Rattle.ecore_meta.specs.Meta.{is_in}
 use Rattle.ecore_meta.proofs.RisingLaws.{keys_any}
 
 -- what a set of the table says
-pub in_table : (sets : List (BTreeSet ℕ)) (c d : ℕ) (o : Option (BTreeSet ℕ)) → o ≡ slice_get sets c → option_map_or (λ s. contains nat_cmp s d) o false ≡ is_in (map (λ s. s.keys) sets) c d
+pub in_table : (sets : List (BTreeSet ℕ)) (c d : ℕ) (o : Option (BTreeSet ℕ)) → o ≡ slice_get sets c
+    → option_map_or (λ s. contains nat_cmp s d) o false ≡ is_in (map (λ s. s.keys) sets) c d
 in_table [] c d o is = ap (λ x. option_map_or (λ s. contains nat_cmp s d) x false) is
 in_table (s ∷ sets) zero d o is = ap (λ x. option_map_or (λ s. contains nat_cmp s d) x false) is ∙ keys_any d s.keys
 in_table (s ∷ sets) (suc c) d o is = in_table sets c d o is

@@ -1,5 +1,6 @@
 -- The value that a text stands for.
-use Rattle.std.specs.Prelude.{◌≡◌, ℕ, ℤ, pos, neg_ℤ, ◌+◌, ◌-◌, ◌*◌, Bool, true, false, List, [], ◌∷◌, Option, None, Some, map, drop, length, codes, cond, nat_eq, ◌<◌, if◌then◌else◌, ◌^◌}
+use Rattle.std.specs.Prelude.{◌≡◌, ℕ, ℤ, pos, neg_ℤ, ◌+◌, ◌-◌, ◌*◌, Bool, true, false, List, [], ◌∷◌, Option, None, Some, map, drop, length, codes}
+use Rattle.std.specs.Prelude.{cond, nat_eq, ◌<◌, if◌then◌else◌, ◌^◌}
 use Rattle.std.specs.Option.{option_map, option_and_then}
 use Rattle.std.specs.Str.{bytes_eq, all_ascii_digits}
 use Rattle.ecore_meta.specs.Names.{number_of}

@@ -58,12 +58,14 @@ not_default_is : (meta : Meta) (f : ℕ) (o : Option Value) → differs_by (kind
 not_default_is meta f None h = refl
 not_default_is meta f (Some v) h = h
 
-pub put_meets : (meta : Meta) (m : State) → Good meta m → (e : IdBytes) (f : ℕ) (new : Option Value) → IsAttribute meta m e f → value_fits meta f new ≡ true → not_default meta f new ≡ true
+pub put_meets : (meta : Meta) (m : State) → Good meta m → (e : IdBytes) (f : ℕ) (new : Option Value) → IsAttribute meta m e f
+    → value_fits meta f new ≡ true → not_default meta f new ≡ true
     → fold meta m (put_made m e f new) ≡ Some (put_after m e f new)
 put_meets meta m good e f new is fits differs =
     let o = get m.attr (e, f) in
     let known = facts meta (get m.kind e) f o is.1 (good.attrs.typed e f) in
-    elim (option_eq value_eq (single_value o) new) as (λ t. option_eq value_eq (single_value o) new ≡ t → fold meta m (cond t [] (Put e f (single_value o) new ∷ [])) ≡ Some (put_after m e f new)) [
+    elim (option_eq value_eq (single_value o) new) as (λ t. option_eq value_eq (single_value o) new ≡ t
+    → fold meta m (cond t [] (Put e f (single_value o) new ∷ [])) ≡ Some (put_after m e f new)) [
       | true ↦ λ equal.
           let same : o ≡ single new = known.0 ∙ ap single ((option_equality value_eq value_equality).exact (single_value o) new equal) in
           ap (λ attr. Some (record m { attr = attr })) (sym (set_here attr_order m.attr (e, f) (single new) same))
@@ -100,7 +102,9 @@ pub taken_fits : (meta : Meta) (f : ℕ) (v : Value) → attr_fits meta (kind_of
 taken_fits meta f v fits = elim (is_default (kind_of meta f) v) as (λ t. value_fits meta f (cond t None (Some v)) ≡ true) [ true ↦ refl | false ↦ fits ]
 
 pub taken_differs : (meta : Meta) (f : ℕ) (v : Value) → not_default meta f (taken meta f v) ≡ true
-taken_differs meta f v = elim (is_default (kind_of meta f) v) as (λ t. is_default (kind_of meta f) v ≡ t → not_default meta f (cond t None (Some v)) ≡ true) [ true ↦ λ _. refl | false ↦ λ is. not_false _ is ] refl
+taken_differs meta f v =
+    elim (is_default (kind_of meta f) v) as (λ t. is_default (kind_of meta f) v ≡ t
+    → not_default meta f (cond t None (Some v)) ≡ true) [ true ↦ λ _. refl | false ↦ λ is. not_false _ is ] refl
 
 pub set_attr_meets : SetAttrMeets
 set_attr_meets meta sound m good e f v is fits = put_meets meta m good e f (taken meta f v) is (taken_fits meta f v fits) (taken_differs meta f v)

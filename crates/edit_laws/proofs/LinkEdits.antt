@@ -20,12 +20,14 @@ use Rattle.model_state.proofs.Orders.{row_order}
 use Rattle.finite_maps.proofs.Cases.{no_some, or_first, or_second}
 use Rattle.edit_laws.specs.Spot.{spot, end_spot}
 use Rattle.edit_laws.specs.Rows.{Rows, clear, ranked, link_step, reranks}
-use Rattle.edit_laws.specs.References.{holds_one, clear_there, join, displace, others_there, rank_there, reranks_there, room_there, MayLink, MayReorder, backwards, without_entry, stands_at}
+use Rattle.edit_laws.specs.References.{holds_one, clear_there, join, displace, others_there, rank_there, reranks_there, room_there, MayLink}
+use Rattle.edit_laws.specs.References.{MayReorder, backwards, without_entry, stands_at}
 use Rattle.edit_laws.specs.Laws.{LinkMeets, UnlinkMeets, UnsetMeets, ReorderMeets}
 use Rattle.edit_laws.proofs.Lists.{Apart, targets_held, targets_has, targets_apart, targets_alike, apart_from, one_passes}
 use Rattle.edit_laws.proofs.Pairs.{some_of}
 use Rattle.edit_laws.proofs.Clears.{Leads, Held, held_from, unlinks_lead, cleared_is, reranks_lead, targets_differ}
-use Rattle.edit_laws.proofs.Joins.{leads_on, join_leads, join_steps, CanJoin, targets_there, count_at, count_there, one_room, no_targets, ranked_other, ranked_there, not_of}
+use Rattle.edit_laws.proofs.Joins.{leads_on, join_leads, join_steps, CanJoin, targets_there, count_at, count_there, one_room, no_targets}
+use Rattle.edit_laws.proofs.Joins.{ranked_other, ranked_there, not_of}
 use Rattle.edit_laws.proofs.Sets.{clear_gone, own_near, no_mirror, there_kept, displace_leads}
 
 module _ (meta : Meta) (sound : Sound meta) (m : State) (good : Good meta m) (a : IdBytes) (f : ℕ) (b : IdBytes) (k : ℕ) (may : MayLink meta m a f b k) where
@@ -65,7 +67,8 @@ module _ (meta : Meta) (sound : Sound meta) (m : State) (good : Good meta m) (a 
 
   -- b's list in the end
   b_same : (g : ℕ) (is : opposite_of meta f ≡ Some g) (y : IdBytes) → get (next (Some g) is) (b, g, y) ≡ get (left (Some g)) (b, g, y)
-  b_same g is y = ranked_other a f (targets (left (Some g)) a f) (spot (targets (left (Some g)) a f) k).ranks (left (Some g)) (b, g, y) (not_of a f b g y (sound.other f g is))
+  b_same g is y = ranked_other a f (targets (left (Some g)) a f) (spot (targets (left (Some g)) a f) k).ranks (left (Some g)) (b, g, y)
+      (not_of a f b g y (sound.other f g is))
 
   pub others_are : (o : Option ℕ) (is : opposite_of meta f ≡ o) → targets_there (next o is) o b ≡ others_there meta m.row o b
   others_are None is = refl
@@ -76,39 +79,50 @@ module _ (meta : Meta) (sound : Sound meta) (m : State) (good : Good meta m) (a 
         | false ↦ refl
       ]
 
-  room_left : (g : ℕ) (is : opposite_of meta f ≡ Some g) → room_there meta m (Some g) b ≡ true → is_below (count (λ (e : RowKey × ℕ). is_of b g e.0) (next (Some g) is)) (row_upper meta g) ≡ true
+  room_left : (g : ℕ) (is : opposite_of meta f ≡ Some g) → room_there meta m (Some g) b ≡ true
+      → is_below (count (λ (e : RowKey × ℕ). is_of b g e.0) (next (Some g) is)) (row_upper meta g) ≡ true
   room_left g is room =
       ap (λ n. is_below n (row_upper meta g)) (count_at (next (Some g) is) (left (Some g)) b g (b_same g is))
-      ∙ elim (holds_one meta g) as (λ t. holds_one meta g ≡ t → t || is_below (row_count m b g) (row_upper meta g) ≡ true → is_below (count (λ (e : RowKey × ℕ). is_of b g e.0) (cond t (clear (Some f) b g m.row) m.row)) (row_upper meta g) ≡ true) [
+      ∙ elim (holds_one meta g) as (λ t. holds_one meta g ≡ t → t || is_below (row_count m b g) (row_upper meta g) ≡ true
+      → is_below (count (λ (e : RowKey × ℕ). is_of b g e.0) (cond t (clear (Some f) b g m.row) m.row)) (row_upper meta g) ≡ true) [
         | true ↦ λ one _. one_room meta (clear (Some f) b g m.row) b g one (λ y. clear_gone (Some f) b g m.row (b, g, y) (own_near (Some f) b g y))
         | false ↦ λ _ room. room
       ] refl room
 
-  can_join : (o : Option ℕ) (is : opposite_of meta f ≡ o) → room_there meta m o b ≡ true → is_some (rank_there meta m.row o b) ≡ true → CanJoin meta (record m { row = next o is }) o b
+  can_join : (o : Option ℕ) (is : opposite_of meta f ≡ o) → room_there meta m o b ≡ true → is_some (rank_there meta m.row o b) ≡ true
+      → CanJoin meta (record m { row = next o is }) o b
   can_join None is room rank = tt
   can_join (Some g) is room rank = (room_left g is room, ap (λ xs. is_some (end_spot xs).rank) (others_are (Some g) is) ∙ rank)
 
-  ends_alike : (o : Option ℕ) (is : opposite_of meta f ≡ o) (ra : ℕ) → join_steps o a f ra b (targets_there (next o is) o b) ≡ reranks_there meta m.row o b ++ link_step o a f ra b (unwrap_or (rank_there meta m.row o b) 0) ∷ []
+  ends_alike : (o : Option ℕ) (is : opposite_of meta f ≡ o) (ra : ℕ)
+      → join_steps o a f ra b (targets_there (next o is) o b) ≡ reranks_there meta m.row o b
+      ++ link_step o a f ra b (unwrap_or (rank_there meta m.row o b) 0) ∷ []
   ends_alike None is ra = refl
   ends_alike (Some g) is ra = ap (join_steps (Some g) a f ra b) (others_are (Some g) is)
 
   link_by : (o : Option ℕ) (is : opposite_of meta f ≡ o)
-      → Leads meta m (displace meta m.row o f b ++ (reranks a f (targets m.row a f) (spot (targets m.row a f) k).ranks ++ (reranks_there meta m.row o b ++ link_step o a f (unwrap_or (spot (targets m.row a f) k).rank 0) b (unwrap_or (rank_there meta m.row o b) 0) ∷ [])))
+      → Leads meta m (displace meta m.row o f b
+      ++ (reranks a f (targets m.row a f) (spot (targets m.row a f) k).ranks
+      ++ (reranks_there meta m.row o b
+      ++ link_step o a f (unwrap_or (spot (targets m.row a f) k).rank 0) b (unwrap_or (rank_there meta m.row o b) 0) ∷ [])))
       (join o a f (spot (targets (left o) a f) k).rank b (next o is))
   link_by o is =
       let ra = unwrap_or (spot (targets m.row a f) k).rank 0 in
       let first : Leads meta m (displace meta m.row o f b) (left o) = displace_leads meta sound m good f b o is in
       let n : State = record m { row = left o } in
       let second : Leads meta n (reranks a f (targets m.row a f) (spot (targets m.row a f) k).ranks) (next o is) =
-      subst (λ xs. Leads meta n (reranks a f xs (spot xs k).ranks) (next o is)) (left_targets o is) (reranks_lead meta sound a f (targets (left o) a f) (spot (targets (left o) a f) k).ranks n first.good (held o is)) in
+      subst (λ xs. Leads meta n (reranks a f xs (spot xs k).ranks) (next o is)) (left_targets o is)
+      (reranks_lead meta sound a f (targets (left o) a f) (spot (targets (left o) a f) k).ranks n first.good (held o is)) in
       let l : State = record m { row = next o is } in
       let room : room_there meta m o b ≡ true = ap (λ o. room_there meta m o b) (sym is) ∙ may.room in
       let rank : is_some (rank_there meta m.row o b) ≡ true = ap (λ o. is_some (rank_there meta m.row o b)) (sym is) ∙ may.ranked_there in
       let third = join_leads meta sound l second.good a f ra b may.typed (next_none o is) (next_free o is) o is (can_join o is room rank) in
-      let ranked_so : Some ra ≡ (spot (targets (left o) a f) k).rank = sym (some_of (spot (targets m.row a f) k).rank may.ranked) ∙ ap (λ xs. (spot xs k).rank) (sym (left_targets o is)) in
+      let ranked_so : Some ra ≡ (spot (targets (left o) a f) k).rank =
+      sym (some_of (spot (targets m.row a f) k).rank may.ranked) ∙ ap (λ xs. (spot xs k).rank) (sym (left_targets o is)) in
       leads_on meta m _ _ (left o) _ first
       (leads_on meta n _ _ (next o is) _ second
-      (subst (λ w. Leads meta l (reranks_there meta m.row o b ++ link_step o a f ra b (unwrap_or (rank_there meta m.row o b) 0) ∷ []) (join o a f w b (next o is))) ranked_so
+      (subst (λ w. Leads meta l (reranks_there meta m.row o b ++ link_step o a f ra b (unwrap_or (rank_there meta m.row o b) 0) ∷ [])
+      (join o a f w b (next o is))) ranked_so
       (subst (λ ss. Leads meta l ss (join o a f (Some ra) b (next o is))) (ends_alike o is ra) third)))
 
 pub link_meets : LinkMeets
@@ -116,7 +130,8 @@ link_meets meta sound m good a f b k may = (link_by meta sound m good a f b k ma
 
 pub unlink_meets : UnlinkMeets
 unlink_meets meta sound m good a f b there =
-    (unlinks_lead meta sound a f m.row (record { rank = unwrap_or (get m.row (a, f, b)) 0; id = b } ∷ []) m good (some_of (get m.row (a, f, b)) there, refl, refl, tt)).run
+    (unlinks_lead meta sound a f m.row (record { rank = unwrap_or (get m.row (a, f, b)) 0; id = b } ∷ []) m good
+    (some_of (get m.row (a, f, b)) there, refl, refl, tt)).run
 
 -- ---- unset
 tally-last : {X : Type 0} (p : X → Bool) (xs : List X) (x : X) → tally p (xs ++ x ∷ []) ≡ cond (p x) 1 0 + tally p xs
@@ -156,15 +171,20 @@ pub unset_meets : UnsetMeets
 unset_meets meta sound m good a f =
     let xs = targets m.row a f in
     let o = opposite_of meta f in
-    let apart : Apart (backwards xs) = apart_from (backwards xs) (λ i. subst (λ n. n ≤ 1) (sym (tally-backwards (λ (x : Entry). text_eq i x.id) xs)) (one_passes m.row a f i)) in
-    let held : Held m.row m.row o a f (backwards xs) = held_from m.row o a f (backwards xs) (all_backwards (λ (x : Entry). get m.row (a, f, x.id) ≡ Some x.rank) xs (targets_held m.row a f)) apart in
+    let apart : Apart (backwards xs) =
+    apart_from (backwards xs) (λ i. subst (λ n. n ≤ 1) (sym (tally-backwards (λ (x : Entry). text_eq i x.id) xs)) (one_passes m.row a f i)) in
+    let held : Held m.row m.row o a f (backwards xs) =
+    held_from m.row o a f (backwards xs) (all_backwards (λ (x : Entry). get m.row (a, f, x.id) ≡ Some x.rank) xs (targets_held m.row a f)) apart in
     (unlinks_lead meta sound a f m.row (backwards xs) m good held).run
-    ∙ ap (λ row. Some (record m { row = row })) (cleared_is meta sound a f m good (backwards xs) (λ y r is. any-backwards (λ (x : Entry). text_eq y x.id) xs ∙ targets_has m.row a f y r is))
+    ∙ ap (λ row. Some (record m { row = row }))
+    (cleared_is meta sound a f m good (backwards xs) (λ y r is. any-backwards (λ (x : Entry). text_eq y x.id) xs ∙ targets_has m.row a f y r is))
 
 -- ---- reorder
 pub all_filter : (P : Entry → Type 0) (p : Entry → Bool) (xs : List Entry) → AllByRecursion P xs → AllByRecursion P (filter p xs)
 all_filter P p [] all = tt
-all_filter P p (x ∷ xs) all = elim (p x) as (λ b. AllByRecursion P (cond {A = List Entry} b (x ∷ filter p xs) (filter p xs))) [ true ↦ (all.0, all_filter P p xs all.1) | false ↦ all_filter P p xs all.1 ]
+all_filter P p (x ∷ xs) all =
+    elim (p x) as (λ b. AllByRecursion P
+    (cond {A = List Entry} b (x ∷ filter p xs) (filter p xs))) [ true ↦ (all.0, all_filter P p xs all.1) | false ↦ all_filter P p xs all.1 ]
 
 pub fewer : (p q : Entry → Bool) (xs : List Entry) → tally q (filter p xs) ≤ tally q xs
 fewer p q [] = omega arith
@@ -183,17 +203,20 @@ fewer p q (x ∷ xs) =
 pub none_without : (b : IdBytes) (xs : List Entry) → list_any (λ (x : Entry). text_eq b x.id) (without_entry b xs) ≡ false
 none_without b [] = refl
 none_without b (x ∷ xs) =
-    elim (text_eq b x.id) as (λ t. text_eq b x.id ≡ t → list_any (λ (x : Entry). text_eq b x.id) (cond {A = List Entry} (not t) (x ∷ without_entry b xs) (without_entry b xs)) ≡ false) [
+    elim (text_eq b x.id) as (λ t. text_eq b x.id ≡ t
+    → list_any (λ (x : Entry). text_eq b x.id) (cond {A = List Entry} (not t) (x ∷ without_entry b xs) (without_entry b xs)) ≡ false) [
       | true ↦ λ _. none_without b xs
       | false ↦ λ is. ap (λ t. t || list_any (λ (x : Entry). text_eq b x.id) (without_entry b xs)) is ∙ none_without b xs
     ] refl
 
-pub ranked_missing : (a : IdBytes) (f : ℕ) (b : IdBytes) (xs : List Entry) (rs : List ℕ) (row : Rows) → list_any (λ (x : Entry). text_eq b x.id) xs ≡ false → get (ranked a f xs rs row) (a, f, b) ≡ get row (a, f, b)
+pub ranked_missing : (a : IdBytes) (f : ℕ) (b : IdBytes) (xs : List Entry) (rs : List ℕ) (row : Rows)
+    → list_any (λ (x : Entry). text_eq b x.id) xs ≡ false → get (ranked a f xs rs row) (a, f, b) ≡ get row (a, f, b)
 ranked_missing a f b [] rs row h = refl
 ranked_missing a f b (x ∷ _) [] row h = refl
 ranked_missing a f b (x ∷ xs) (r ∷ rs) row h =
     ranked_missing a f b xs rs (set row (a, f, x.id) (Some r)) (or_second (text_eq b x.id) _ h)
-    ∙ get-set_other row_order row (a, f, x.id) (Some r) (a, f, b) (targets_differ a f x.id b (apart text_eq text_equality b x.id (or_first (text_eq b x.id) _ h)))
+    ∙ get-set_other row_order row (a, f, x.id) (Some r) (a, f, b)
+    (targets_differ a f x.id b (apart text_eq text_equality b x.id (or_first (text_eq b x.id) _ h)))
 
 pub at_most : (n k : ℕ) → n ≤ k → k ≤ 1 → n ≤ 1
 at_most n k h g = omega arith
@@ -212,7 +235,8 @@ module _ (meta : Meta) (sound : Sound meta) (m : State) (good : Good meta m) (a 
   moved_row = set (ranked a f others (spot others k).ranks m.row) (a, f, b) (spot others k).rank
 
   pub others_held : Held m.row m.row None a f others
-  others_held = held_from m.row None a f others (all_filter (λ (x : Entry). get m.row (a, f, x.id) ≡ Some x.rank) (λ x. not (text_eq b x.id)) (targets m.row a f) (targets_held m.row a f))
+  others_held = held_from m.row None a f others
+      (all_filter (λ (x : Entry). get m.row (a, f, x.id) ≡ Some x.rank) (λ x. not (text_eq b x.id)) (targets m.row a f) (targets_held m.row a f))
       (apart_from others (λ i. at_most _ _ (fewer (λ x. not (text_eq b x.id)) (λ x. text_eq i x.id) (targets m.row a f)) (one_passes m.row a f i)))
 
   moved : is_some (spot others k).rank ≡ true → fold meta m steps ≡ Some (record m { row = moved_row })
@@ -220,13 +244,16 @@ module _ (meta : Meta) (sound : Sound meta) (m : State) (good : Good meta m) (a 
       let next = ranked a f others (spot others k).ranks m.row in
       let n : State = record m { row = next } in
       let first : Leads meta m (reranks a f others (spot others k).ranks) next = reranks_lead meta sound a f others (spot others k).ranks m good others_held in
-      let here : get next (a, f, b) ≡ Some (unwrap_or (get m.row (a, f, b)) 0) = ranked_missing a f b others (spot others k).ranks m.row (none_without b (targets m.row a f)) ∙ some_of (get m.row (a, f, b)) may.there in
+      let here : get next (a, f, b) ≡ Some (unwrap_or (get m.row (a, f, b)) 0) =
+      ranked_missing a f b others (spot others k).ranks m.row (none_without b (targets m.row a f)) ∙ some_of (get m.row (a, f, b)) may.there in
       let second = reranks_lead meta sound a f mine (unwrap_or (spot others k).rank 0 ∷ []) n first.good (here, refl, refl, tt) in
       (leads_on meta m _ _ next _ first second).run ∙ ap (λ w. Some (record m { row = set next (a, f, b) w })) (sym (some_of (spot others k).rank some))
 
-  reordered : fold meta m (cond (stands_at b k (targets m.row a f)) [] steps) ≡ Some (record m { row = cond (stands_at b k (targets m.row a f)) m.row moved_row })
+  reordered : fold meta m (cond (stands_at b k (targets m.row a f)) [] steps) ≡ Some
+      (record m { row = cond (stands_at b k (targets m.row a f)) m.row moved_row })
   reordered =
-      elim (stands_at b k (targets m.row a f)) as (λ t. stands_at b k (targets m.row a f) ≡ t → fold meta m (cond t [] steps) ≡ Some (record m { row = cond t m.row moved_row })) [
+      elim (stands_at b k (targets m.row a f)) as (λ t. stands_at b k (targets m.row a f) ≡ t
+      → fold meta m (cond t [] steps) ≡ Some (record m { row = cond t m.row moved_row })) [
         | true ↦ λ _. refl
         | false ↦ λ away. moved (may.ranked away)
       ] refl

@@ -98,7 +98,8 @@ module _ {K : Type 0} {R : K → K → _} (o : IsKeyOrder R) where
       reversed Greater h = absurd h
 
 module _ {K X : Type 0} {R : K → K → _} (o : IsKeyOrder R) where
-  found_in : (p : K × X → Bool) (test : K × X → Bool) (k : K) (v : X) (es : List (K × X)) → find R k es ≡ Some v → p (k, v) ≡ true → test (k, v) ≡ true → list_any test (filter p es) ≡ true
+  found_in : (p : K × X → Bool) (test : K × X → Bool) (k : K) (v : X) (es : List (K × X)) → find R k es ≡ Some v → p (k, v) ≡ true
+      → test (k, v) ≡ true → list_any test (filter p es) ≡ true
   found_in p test k v [] h pass t = cc
   found_in p test k v (e ∷ es) h pass t =
       elim (eq_by_cmp R k e.0) as (λ b. eq_by_cmp R k e.0 ≡ b → cond b (Some e.1) (find R k es) ≡ Some v → list_any test (filter p (e ∷ es)) ≡ true) [
@@ -113,7 +114,8 @@ module _ {K X : Type 0} {R : K → K → _} (o : IsKeyOrder R) where
       here same is =
           let pair : ◌≡◌ {A = K × X} (k, v) e = λ i. (same i, sym is i) in
           subst (λ z. list_any test (cond {A = List (K × X)} (p z) (e ∷ filter p es) (filter p es)) ≡ true) pair
-          (ap (λ b. list_any test (cond {A = List (K × X)} b (e ∷ filter p es) (filter p es))) pass ∙ ap (λ z. test z || list_any test (filter p es)) (sym pair) ∙ ap (λ b. b || list_any test (filter p es)) t)
+          (ap (λ b. list_any test (cond {A = List (K × X)} b (e ∷ filter p es) (filter p es))) pass
+          ∙ ap (λ z. test z || list_any test (filter p es)) (sym pair) ∙ ap (λ b. b || list_any test (filter p es)) t)
 
       later : (b : Bool) → list_any test (filter p es) ≡ true → list_any test (cond {A = List (K × X)} b (e ∷ filter p es) (filter p es)) ≡ true
       later true h = ap (λ z. test e || z) h ∙ or_true (test e)
@@ -124,10 +126,12 @@ module _ {K X : Type 0} {R : K → K → _} (o : IsKeyOrder R) where
       later false h = h
 
   -- an entry that passes is picked
-  pub picked_has : (p : K × X → Bool) (m : FinMap R X) (test : K × X → Bool) (k : K) (v : X) → get m k ≡ Some v → p (k, v) ≡ true → test (k, v) ≡ true → list_any test (picked p m) ≡ true
+  pub picked_has : (p : K × X → Bool) (m : FinMap R X) (test : K × X → Bool) (k : K) (v : X) → get m k ≡ Some v → p (k, v) ≡ true → test (k, v) ≡ true
+      → list_any test (picked p m) ≡ true
   picked_has p m test k v is pass t = found_in p test k v (entries m) (sym (get-entries m k) ∙ is) pass t
 
-  later_found : (k : K) (v : X) (es fs : List (K × X)) → T (below_all R k es) → AllByRecursion (λ (e : K × X). find R e.0 fs ≡ Some e.1) es → AllByRecursion (λ (e : K × X). find R e.0 ((k, v) ∷ fs) ≡ Some e.1) es
+  later_found : (k : K) (v : X) (es fs : List (K × X)) → T (below_all R k es) → AllByRecursion (λ (e : K × X). find R e.0 fs ≡ Some e.1) es
+      → AllByRecursion (λ (e : K × X). find R e.0 ((k, v) ∷ fs) ≡ Some e.1) es
   later_found k v [] fs h all = tt
   later_found k v (e ∷ es) fs h all =
       (ap (λ b. cond b (Some v) (find R e.0 fs)) (turned_less o k e.0 (first _ _ h)) ∙ all.0, later_found k v es fs (second _ _ h) all.1)
@@ -142,7 +146,8 @@ module _ {K X : Type 0} {R : K → K → _} (o : IsKeyOrder R) where
 
   -- each entry is what its key has
   pub entries_held : (m : FinMap R X) → AllByRecursion (λ (e : K × X). get m e.0 ≡ Some e.1) (entries m)
-  entries_held m = all_alike (λ e. find R e.0 (entries m) ≡ Some e.1) (λ e. get m e.0 ≡ Some e.1) (λ e h. get-entries m e.0 ∙ h) (entries m) (found_all (entries m) (entries_sorted m))
+  entries_held m = all_alike (λ e. find R e.0 (entries m) ≡ Some e.1) (λ e. get m e.0 ≡ Some e.1) (λ e h. get-entries m e.0 ∙ h) (entries m)
+      (found_all (entries m) (entries_sorted m))
 
 -- ---- targets
 pub of_exact : (a : IdBytes) (f : ℕ) (k : RowKey) → is_of a f k ≡ true → k ≡ (a, f, k.2)
@@ -156,10 +161,14 @@ pub of_own : (a : IdBytes) (f : ℕ) (b : IdBytes) → is_of a f (a, f, b) ≡ t
 of_own a f b = and_both _ _ (text_equality.own a) (nat_equality.own f)
 
 module _ (row : FinMap row_cmp ℕ) (a : IdBytes) (f : ℕ) where
-  mapped : (es : List (RowKey × ℕ)) → AllByRecursion (λ (e : RowKey × ℕ). get row e.0 ≡ Some e.1) es → AllByRecursion (λ (x : Entry). get row (a, f, x.id) ≡ Some x.rank) (map row_entry (filter (λ (e : RowKey × ℕ). is_of a f e.0) es))
+  mapped : (es : List (RowKey × ℕ)) → AllByRecursion (λ (e : RowKey × ℕ). get row e.0 ≡ Some e.1) es
+      → AllByRecursion (λ (x : Entry). get row (a, f, x.id) ≡ Some x.rank) (map row_entry (filter (λ (e : RowKey × ℕ). is_of a f e.0) es))
   mapped [] all = tt
   mapped (e ∷ es) all =
-      elim (is_of a f e.0) as (λ b. is_of a f e.0 ≡ b → AllByRecursion (λ (x : Entry). get row (a, f, x.id) ≡ Some x.rank) (map row_entry (cond {A = List (RowKey × ℕ)} b (e ∷ filter (λ (e : RowKey × ℕ). is_of a f e.0) es) (filter (λ (e : RowKey × ℕ). is_of a f e.0) es)))) [
+      elim (is_of a f e.0) as (λ b. is_of a f e.0 ≡ b
+      → AllByRecursion (λ (x : Entry). get row (a, f, x.id) ≡ Some x.rank)
+      (map row_entry (cond {A = List (RowKey × ℕ)} b (e ∷ filter (λ (e : RowKey × ℕ). is_of a f e.0) es)
+      (filter (λ (e : RowKey × ℕ). is_of a f e.0) es)))) [
         | true ↦ λ is. (ap (get row) (sym (of_exact a f e.0 is)) ∙ all.0, mapped es all.1)
         | false ↦ λ is. mapped es all.1
       ] refl
@@ -185,7 +194,8 @@ module _ (row : FinMap row_cmp ℕ) (a : IdBytes) (f : ℕ) where
       ∙ tally-filter (λ (e : RowKey × ℕ). is_of a f e.0) (λ (e : RowKey × ℕ). text_eq i e.0.2) (entries row) in
       let none : count p (set row k None) ≡ 0 = count_none row_order p (set row k None) (λ q v is.
       not_so (p (q, v)) (λ pass.
-      let key : q ≡ k = of_exact a f q (and_first _ _ pass) ∙ ap (λ (z : IdBytes). (a, f, z)) (sym (text_equality.exact i q.2 (and_second (is_of a f q) _ pass))) in
+      let key : q ≡ k = of_exact a f q (and_first _ _ pass)
+      ∙ ap (λ (z : IdBytes). (a, f, z)) (sym (text_equality.exact i q.2 (and_second (is_of a f q) _ pass))) in
       some_none (get (set row k None) q) v is (ap (get (set row k None)) key ∙ get-set_same row_order row k None))) in
       let sum : count p (set row k None) + counts p k (get row k) ≡ count p row + 0 = count-set row_order p row k None in
       subst (λ n. n ≤ 1) (sym same) (at_most (counts p k (get row k)) (count p (set row k None)) (count p row) (counted (get row k)) none sum)
@@ -209,7 +219,9 @@ Apart (x ∷ xs) = (list_any (λ (y : Entry). text_eq x.id y.id) xs ≡ false) �
 pub apart_from : (xs : List Entry) → ((i : IdBytes) → tally (λ (x : Entry). text_eq i x.id) xs ≤ 1) → Apart xs
 apart_from [] h = tt
 apart_from (x ∷ xs) h = (
-  none_tallied (λ (y : Entry). text_eq x.id y.id) xs (rest_none (tally (λ (y : Entry). text_eq x.id y.id) xs) (subst (λ b. cond b 1 0 + tally (λ (y : Entry). text_eq x.id y.id) xs ≤ 1) (text_equality.own x.id) (h x.id))),
+  none_tallied (λ (y : Entry). text_eq x.id y.id) xs
+      (rest_none (tally (λ (y : Entry). text_eq x.id y.id) xs)
+      (subst (λ b. cond b 1 0 + tally (λ (y : Entry). text_eq x.id y.id) xs ≤ 1) (text_equality.own x.id) (h x.id))),
   apart_from xs (λ i. less (cond (text_eq i x.id) 1 0) (tally (λ (y : Entry). text_eq i y.id) xs) (h i)),
 )
   where
@@ -225,7 +237,8 @@ targets_apart row a f = apart_from (targets row a f) (one_passes row a f)
 -- where two maps have the same rows of a feature, its targets are the same
 pub targets_alike : (r s : FinMap row_cmp ℕ) (a : IdBytes) (f : ℕ) → ((y : IdBytes) → get r (a, f, y) ≡ get s (a, f, y)) → targets r a f ≡ targets s a f
 targets_alike r s a f alike =
-    ap (λ es. in_order entry_cmp (map row_entry es)) (same_entries row_cmp row_order.total row_order.exact (where_key row_cmp (is_of a f) (entries r)) (where_key row_cmp (is_of a f) (entries s))
+    ap (λ es. in_order entry_cmp (map row_entry es))
+    (same_entries row_cmp row_order.total row_order.exact (where_key row_cmp (is_of a f) (entries r)) (where_key row_cmp (is_of a f) (entries s))
     (is_sorted-where_key row_cmp (is_of a f) (entries r) (entries_sorted r)) (is_sorted-where_key row_cmp (is_of a f) (entries s) (entries_sorted s))
     (λ q. find-where_key row_cmp (is_of a f) q (λ x tied. ap (is_of a f) (sym (row_order.exact q x tied))) (entries r)
     ∙ here q

@@ -24,7 +24,8 @@ use Rattle.model_laws.proofs.Births.{has_class}
 use Rattle.model_laws.proofs.Runs.{fold_more, fold_append}
 use Rattle.model_laws.proofs.Inserts.{insert-remove}
 use Rattle.model_laws.proofs.Many.{whole, part, from_entry}
-use Rattle.edit_laws.specs.ManyValues.{IsMany, MayInsert, with_values, insert_after, insert_made, remove_after, remove_made, shift_after, shift_made, clear_after, clear_made, dels}
+use Rattle.edit_laws.specs.ManyValues.{IsMany, MayInsert, with_values, insert_after, insert_made, remove_after, remove_made, shift_after, shift_made}
+use Rattle.edit_laws.specs.ManyValues.{clear_after, clear_made, dels}
 use Rattle.model_state.specs.Listing.{values_at}
 
 pub value_test : IsEquality (option_eq value_eq)
@@ -34,10 +35,14 @@ pub values_test : IsEquality (list_eq value_eq)
 values_test = list_equality value_eq value_equality
 
 -- ---- a value is inserted
-pub insert_meets : (meta : Meta) (m : State) (e : IdBytes) (f : ℕ) (k : ℕ) (v : Value) → MayInsert meta m e f k v → fold meta m (insert_made e f k v) ≡ Some (insert_after m e f k v)
+pub insert_meets : (meta : Meta) (m : State) (e : IdBytes) (f : ℕ) (k : ℕ) (v : Value) → MayInsert meta m e f k v
+    → fold meta m (insert_made e f k v) ≡ Some (insert_after m e f k v)
 insert_meets meta m e f k v may =
     fold_more meta m (Ins e f k v) []
-    (pass (tests meta m (Ins e f k v)) (has_class meta (get m.kind e) f may.many.0, (may.many.0, (may.many.1, (may.typed, (may.within, (not_false _ may.once, (may.room, (may.few, tt)))))))))
+    (pass (tests meta m (Ins e f k v)) (
+      has_class meta (get m.kind e) f may.many.0,
+      (may.many.0, (may.many.1, (may.typed, (may.within, (not_false _ may.once, (may.room, (may.few, tt))))))),
+    ))
 
 -- ---- a value is removed
 -- the value at a place of a list
@@ -61,14 +66,22 @@ passes_at p (y ∷ ys) zero x is all = ap p (same x y (sym is)) ∙ and_first (p
     same x y e = cc
 passes_at p (y ∷ ys) (suc k) x is all = passes_at p ys k x is (and_second (p y) _ all)
 
-del_can : (meta : Meta) (m : State) (e : IdBytes) (f : ℕ) (k : ℕ) (v : Value) → IsMany meta m e f → many_fits meta (kind_of meta f) v ≡ true → nat_lt k (length (values_at m e f)) ≡ true → slice_get (values_at m e f) k ≡ Some v → Can meta m (Del e f k v)
+del_can : (meta : Meta) (m : State) (e : IdBytes) (f : ℕ) (k : ℕ) (v : Value) → IsMany meta m e f → many_fits meta (kind_of meta f) v ≡ true
+    → nat_lt k (length (values_at m e f)) ≡ true → slice_get (values_at m e f) k ≡ Some v → Can meta m (Del e f k v)
 del_can meta m e f k v many fits less is =
-    pass (tests meta m (Del e f k v)) (has_class meta (get m.kind e) f many.0, (many.0, (many.1, (fits, (less, (ap (λ o. option_eq value_eq o (Some v)) is ∙ value_test.own (Some v), tt))))))
+    pass (tests meta m (Del e f k v)) (
+      has_class meta (get m.kind e) f many.0,
+      (many.0, (many.1, (fits, (less, (ap (λ o. option_eq value_eq o (Some v)) is ∙ value_test.own (Some v), tt))))),
+    )
 
-fits_at : (meta : Meta) (m : State) → Good meta m → (e : IdBytes) (f : ℕ) (k : ℕ) (v : Value) → IsMany meta m e f → slice_get (values_at m e f) k ≡ Some v → many_fits meta (kind_of meta f) v ≡ true
-fits_at meta m good e f k v many is = passes_at (many_fits meta (kind_of meta f)) (values_at m e f) k v is (from_entry meta (get m.kind e) f (get m.attr (e, f)) many.1 (good.attrs.typed e f)).typed
+fits_at : (meta : Meta) (m : State) → Good meta m → (e : IdBytes) (f : ℕ) (k : ℕ) (v : Value) → IsMany meta m e f
+    → slice_get (values_at m e f) k ≡ Some v → many_fits meta (kind_of meta f) v ≡ true
+fits_at meta m good e f k v many is =
+    passes_at (many_fits meta (kind_of meta f)) (values_at m e f) k v is
+    (from_entry meta (get m.kind e) f (get m.attr (e, f)) many.1 (good.attrs.typed e f)).typed
 
-pub remove_meets : (meta : Meta) (m : State) → Good meta m → (e : IdBytes) (f : ℕ) (k : ℕ) → IsMany meta m e f → nat_lt k (length (values_at m e f)) ≡ true → fold meta m (remove_made m e f k) ≡ Some (remove_after m e f k)
+pub remove_meets : (meta : Meta) (m : State) → Good meta m → (e : IdBytes) (f : ℕ) (k : ℕ) → IsMany meta m e f
+    → nat_lt k (length (values_at m e f)) ≡ true → fold meta m (remove_made m e f k) ≡ Some (remove_after m e f k)
 remove_meets meta m good e f k many less =
     let found = at_place (values_at m e f) k less in
     ap (λ (o : Option Value). fold meta m (option_map_or (λ v. Del e f k v ∷ []) o [])) found.1
@@ -95,11 +108,13 @@ shifted_own vs from to less same =
     let found = at_place vs from less in
     ap (shifted vs from) (sym same) ∙ shifted_is vs from from found.0 found.1 ∙ insert-remove vs from found.0 found.1
 
-pub shift_meets : (meta : Meta) (m : State) → Good meta m → (e : IdBytes) (f : ℕ) (from to : ℕ) → IsMany meta m e f → nat_lt from (length (values_at m e f)) ≡ true → nat_lt to (length (values_at m e f)) ≡ true
+pub shift_meets : (meta : Meta) (m : State) → Good meta m → (e : IdBytes) (f : ℕ) (from to : ℕ) → IsMany meta m e f
+    → nat_lt from (length (values_at m e f)) ≡ true → nat_lt to (length (values_at m e f)) ≡ true
     → fold meta m (shift_made m e f from to) ≡ Some (shift_after m e f from to)
 shift_meets meta m good e f from to many from_in to_in =
     let vs = values_at m e f in
-    elim (list_eq value_eq (shifted vs from to) vs) as (λ t. list_eq value_eq (shifted vs from to) vs ≡ t → fold meta m (cond t [] (Shift e f from to ∷ [])) ≡ Some (shift_after m e f from to)) [
+    elim (list_eq value_eq (shifted vs from to) vs) as (λ t. list_eq value_eq (shifted vs from to) vs ≡ t
+    → fold meta m (cond t [] (Shift e f from to ∷ [])) ≡ Some (shift_after m e f from to)) [
       | true ↦ λ equal. ap Some (sym (with_same meta m good e f (shifted vs from to) (values_test.exact (shifted vs from to) vs equal)))
       | false ↦ λ differ.
           let other : nat_eq from to ≡ false =
@@ -142,7 +157,8 @@ last_in xs y = ap (nat_lt (length xs)) (length_one xs y) ∙ less (length xs)
 
 module _ (meta : Meta) (m : State) (e : IdBytes) (f : ℕ) (many : IsMany meta m e f) where
   -- the values after the first ones are removed, the last first
-  dels_lead : (front vs : List Value) (n : ℕ) → length front ≡ n → list_all (many_fits meta (kind_of meta f)) vs ≡ true → fold meta (with_values m e f (front ++ vs)) (dels e f n vs) ≡ Some (with_values m e f front)
+  dels_lead : (front vs : List Value) (n : ℕ) → length front ≡ n → list_all (many_fits meta (kind_of meta f)) vs ≡ true
+      → fold meta (with_values m e f (front ++ vs)) (dels e f n vs) ≡ Some (with_values m e f front)
   dels_lead front [] n long fit = ap (λ ws. Some (with_values m e f ws)) (append_nil front)
   dels_lead front (v ∷ vs) n long fit =
       let more = front ++ v ∷ [] in
@@ -150,15 +166,19 @@ module _ (meta : Meta) (m : State) (e : IdBytes) (f : ℕ) (many : IsMany meta m
       let rest : fold meta (with_values m e f (front ++ v ∷ vs)) (dels e f (n + 1) vs) ≡ Some (with_values m e f more) =
       ap (λ ws. fold meta (with_values m e f ws) (dels e f (n + 1) vs)) (sym (append_one front v vs))
       ∙ dels_lead more vs (n + 1) (length_one front v ∙ ap (λ k. k + 1) long) (and_second (many_fits meta (kind_of meta f) v) _ fit) in
-      let less : nat_lt n (length (values_at (with_values m e f more) e f)) ≡ true = ap (λ ws. nat_lt n (length ws)) now ∙ ap (λ k. nat_lt k (length more)) (sym long) ∙ last_in front v in
-      let here : slice_get (values_at (with_values m e f more) e f) n ≡ Some v = ap (λ ws. slice_get ws n) now ∙ ap (slice_get more) (sym long) ∙ last_at front v in
+      let less : nat_lt n (length (values_at (with_values m e f more) e f)) ≡ true =
+      ap (λ ws. nat_lt n (length ws)) now ∙ ap (λ k. nat_lt k (length more)) (sym long) ∙ last_in front v in
+      let here : slice_get (values_at (with_values m e f more) e f) n ≡ Some v =
+      ap (λ ws. slice_get ws n) now ∙ ap (slice_get more) (sym long) ∙ last_at front v in
       let left : remove (values_at (with_values m e f more) e f) n ≡ front = ap (λ ws. remove ws n) now ∙ ap (remove more) (sym long) ∙ last_goes front v in
       fold_append meta (with_values m e f (front ++ v ∷ vs)) (with_values m e f more) (dels e f (n + 1) vs) (Del e f n v ∷ []) rest
-      ∙ fold_more meta (with_values m e f more) (Del e f n v) [] (del_can meta (with_values m e f more) e f n v many (and_first (many_fits meta (kind_of meta f) v) _ fit) less here)
+      ∙ fold_more meta (with_values m e f more) (Del e f n v) []
+      (del_can meta (with_values m e f more) e f n v many (and_first (many_fits meta (kind_of meta f) v) _ fit) less here)
       ∙ ap (λ ws. Some (with_values (with_values m e f more) e f ws)) left
       ∙ ap (λ attr. Some (record m { attr = attr })) (set_twice attr_order m.attr (e, f) (entry_of more) (entry_of front))
 
-pub clear_meets : (meta : Meta) (m : State) → Good meta m → (e : IdBytes) (f : ℕ) → IsMany meta m e f → fold meta m (clear_made m e f) ≡ Some (clear_after m e f)
+pub clear_meets : (meta : Meta) (m : State) → Good meta m → (e : IdBytes) (f : ℕ) → IsMany meta m e f
+    → fold meta m (clear_made m e f) ≡ Some (clear_after m e f)
 clear_meets meta m good e f many =
     ap (λ n. fold meta n (clear_made m e f)) (sym (with_same meta m good e f (values_at m e f) refl))
     ∙ dels_lead meta m e f many [] (values_at m e f) 0 refl (from_entry meta (get m.kind e) f (get m.attr (e, f)) many.1 (good.attrs.typed e f)).typed

@@ -68,14 +68,17 @@ pub record Takes (meta : Meta) (m : State) (s : Step) (row : Rows) : Type 0 wher
   pub leaves : apply meta m s ≡ record m { row = row }
 
 -- two writes of rows of different features commute
-pub pair_swap : (meta : Meta) → Sound meta → (row : Rows) (a : IdBytes) (f : ℕ) (b : IdBytes) (g : ℕ) (v w : Option ℕ) → opposite_of meta f ≡ Some g → set (set row (b, g, a) w) (a, f, b) v ≡ set (set row (a, f, b) v) (b, g, a) w
+pub pair_swap : (meta : Meta) → Sound meta → (row : Rows) (a : IdBytes) (f : ℕ) (b : IdBytes) (g : ℕ) (v w : Option ℕ) → opposite_of meta f ≡ Some g
+    → set (set row (b, g, a) w) (a, f, b) v ≡ set (set row (a, f, b) v) (b, g, a) w
 pair_swap meta sound row a f b g v w is = set_swap row_order row (b, g, a) (a, f, b) w v (rows_apart a f b b g a (sound.other f g is))
 
 module _ (meta : Meta) (sound : Sound meta) (m : State) (good : Good meta m) where
   -- ---- Unlink
-  unlink_can : (a : IdBytes) (f : ℕ) (ra : ℕ) (b : IdBytes) (rb : Option ℕ) → get m.row (a, f, b) ≡ Some ra → mirror_given (opposite_of meta f) f rb ≡ true → mirror_at m (opposite_of meta f) a b rb ≡ true → Can meta m (Unlink a f ra b rb)
+  unlink_can : (a : IdBytes) (f : ℕ) (ra : ℕ) (b : IdBytes) (rb : Option ℕ) → get m.row (a, f, b) ≡ Some ra
+      → mirror_given (opposite_of meta f) f rb ≡ true → mirror_at m (opposite_of meta f) a b rb ≡ true → Can meta m (Unlink a f ra b rb)
   unlink_can a f ra b rb here given there =
-      let typed : may_link meta (get m.kind a) f (get m.kind b) ≡ true = row_typed meta (get m.kind a) f (get m.kind b) (get m.row (a, f, b)) ra here (good.rows.typed a f b) in
+      let typed : may_link meta (get m.kind a) f (get m.kind b) ≡ true =
+      row_typed meta (get m.kind a) f (get m.kind b) (get m.row (a, f, b)) ra here (good.rows.typed a f b) in
       pass (tests meta m (Unlink a f ra b rb)) (
         source_live meta _ f _ typed,
         (
@@ -96,7 +99,8 @@ module _ (meta : Meta) (sound : Sound meta) (m : State) (good : Good meta m) whe
         ),
       )
 
-  unlink_by : (a : IdBytes) (f : ℕ) (ra : ℕ) (b : IdBytes) (o : Option ℕ) → opposite_of meta f ≡ o → get m.row (a, f, b) ≡ Some ra → Takes meta m (unlink_step o a f ra b (mirror_rank m.row o a b)) (set_pair m.row a f b o None None)
+  unlink_by : (a : IdBytes) (f : ℕ) (ra : ℕ) (b : IdBytes) (o : Option ℕ) → opposite_of meta f ≡ o → get m.row (a, f, b) ≡ Some ra
+      → Takes meta m (unlink_step o a f ra b (mirror_rank m.row o a b)) (set_pair m.row a f b o None None)
   unlink_by a f ra b None is here = record {
     can = unlink_can a f ra b None here (ap (λ o. mirror_given o f None) is) (ap (λ o. mirror_at m o a b None) is);
     leaves = ap (λ o. record m { row = set_pair m.row a f b o None None }) is;
@@ -105,22 +109,29 @@ module _ (meta : Meta) (sound : Sound meta) (m : State) (good : Good meta m) whe
       let rb = unwrap_or (get m.row (b, g, a)) 0 in
       let back : opposite_of meta g ≡ Some f = sound.both f g is in
       let there : get m.row (b, g, a) ≡ Some rb = some_of _ (sym (good.rows.mirrored a f b g is) ∙ ap is_some here) in
-      elim (nat_lt g f) as (λ t. nat_lt g f ≡ t → Takes meta m (cond t (Unlink b g rb a (Some ra)) (Unlink a f ra b (Some rb))) (set_pair m.row a f b (Some g) None None)) [
+      elim (nat_lt g f) as (λ t. nat_lt g f ≡ t
+      → Takes meta m (cond t (Unlink b g rb a (Some ra)) (Unlink a f ra b (Some rb))) (set_pair m.row a f b (Some g) None None)) [
         | true ↦ λ less. record {
-          can = unlink_can b g rb a (Some ra) there (ap (λ o. mirror_given o g (Some ra)) back ∙ ap not (less_not f g less)) (ap (λ o. mirror_at m o b a (Some ra)) back ∙ ap (λ o. option_eq nat_eq o (Some ra)) here ∙ number_equality.own (Some ra));
-          leaves = ap (λ o. record m { row = set_pair m.row b g a o None None }) back ∙ ap (λ r. record m { row = r }) (pair_swap meta sound m.row a f b g None None is);
+          can = unlink_can b g rb a (Some ra) there (ap (λ o. mirror_given o g (Some ra)) back ∙ ap not (less_not f g less))
+              (ap (λ o. mirror_at m o b a (Some ra)) back ∙ ap (λ o. option_eq nat_eq o (Some ra)) here ∙ number_equality.own (Some ra));
+          leaves = ap (λ o. record m { row = set_pair m.row b g a o None None }) back
+              ∙ ap (λ r. record m { row = r }) (pair_swap meta sound m.row a f b g None None is);
         }
         | false ↦ λ less. record {
-          can = unlink_can a f ra b (Some rb) here (ap (λ o. mirror_given o f (Some rb)) is ∙ ap not less) (ap (λ o. mirror_at m o a b (Some rb)) is ∙ ap (λ o. option_eq nat_eq o (Some rb)) there ∙ number_equality.own (Some rb));
+          can = unlink_can a f ra b (Some rb) here (ap (λ o. mirror_given o f (Some rb)) is ∙ ap not less)
+              (ap (λ o. mirror_at m o a b (Some rb)) is ∙ ap (λ o. option_eq nat_eq o (Some rb)) there ∙ number_equality.own (Some rb));
           leaves = ap (λ o. record m { row = set_pair m.row a f b o None None }) is;
         }
       ] refl
 
-  pub unlink_takes : (a : IdBytes) (f : ℕ) (ra : ℕ) (b : IdBytes) → get m.row (a, f, b) ≡ Some ra → Takes meta m (unlink_step (opposite_of meta f) a f ra b (mirror_rank m.row (opposite_of meta f) a b)) (set_pair m.row a f b (opposite_of meta f) None None)
+  pub unlink_takes : (a : IdBytes) (f : ℕ) (ra : ℕ) (b : IdBytes) → get m.row (a, f, b) ≡ Some ra
+      → Takes meta m (unlink_step (opposite_of meta f) a f ra b (mirror_rank m.row (opposite_of meta f) a b))
+      (set_pair m.row a f b (opposite_of meta f) None None)
   unlink_takes a f ra b here = unlink_by a f ra b (opposite_of meta f) refl here
 
   -- ---- Link
-  link_can : (a : IdBytes) (f : ℕ) (ra : ℕ) (b : IdBytes) (rb : Option ℕ) → may_link meta (get m.kind a) f (get m.kind b) ≡ true → mirror_given (opposite_of meta f) f rb ≡ true → get m.row (a, f, b) ≡ None
+  link_can : (a : IdBytes) (f : ℕ) (ra : ℕ) (b : IdBytes) (rb : Option ℕ) → may_link meta (get m.kind a) f (get m.kind b) ≡ true
+      → mirror_given (opposite_of meta f) f rb ≡ true → get m.row (a, f, b) ≡ None
       → is_below (row_count m a f) (row_upper meta f) ≡ true → mirror_room meta m (opposite_of meta f) b ≡ true → Can meta m (Link a f ra b rb)
   link_can a f ra b rb typed given none room room' =
       pass (tests meta m (Link a f ra b rb)) (
@@ -149,8 +160,10 @@ module _ (meta : Meta) (sound : Sound meta) (m : State) (good : Good meta m) whe
   mirror_may (Some c) f None g is h = cc
   mirror_may (Some c) f (Some d) g is h = sound.mirrors c f d g is h
 
-  link_by : (a : IdBytes) (f : ℕ) (ra : ℕ) (b : IdBytes) (rb : ℕ) (o : Option ℕ) → opposite_of meta f ≡ o → may_link meta (get m.kind a) f (get m.kind b) ≡ true → get m.row (a, f, b) ≡ None
-      → is_below (row_count m a f) (row_upper meta f) ≡ true → mirror_room meta m o b ≡ true → Takes meta m (link_step o a f ra b rb) (set_pair m.row a f b o (Some ra) (Some rb))
+  link_by : (a : IdBytes) (f : ℕ) (ra : ℕ) (b : IdBytes) (rb : ℕ) (o : Option ℕ) → opposite_of meta f ≡ o
+      → may_link meta (get m.kind a) f (get m.kind b) ≡ true → get m.row (a, f, b) ≡ None
+      → is_below (row_count m a f) (row_upper meta f) ≡ true → mirror_room meta m o b ≡ true
+      → Takes meta m (link_step o a f ra b rb) (set_pair m.row a f b o (Some ra) (Some rb))
   link_by a f ra b rb None is typed none room room' = record {
     can = link_can a f ra b None typed (ap (λ o. mirror_given o f None) is) none room (ap (λ o. mirror_room meta m o b) is);
     leaves = ap (λ o. record m { row = set_pair m.row a f b o (Some ra) None }) is;
@@ -158,13 +171,17 @@ module _ (meta : Meta) (sound : Sound meta) (m : State) (good : Good meta m) whe
   link_by a f ra b rb (Some g) is typed none room room' =
       let back : opposite_of meta g ≡ Some f = sound.both f g is in
       let none' : get m.row (b, g, a) ≡ None = no_some _ (sym (good.rows.mirrored a f b g is) ∙ ap is_some none) in
-      elim (nat_lt g f) as (λ t. nat_lt g f ≡ t → Takes meta m (cond t (Link b g rb a (Some ra)) (Link a f ra b (Some rb))) (set_pair m.row a f b (Some g) (Some ra) (Some rb))) [
+      elim (nat_lt g f) as (λ t. nat_lt g f ≡ t
+      → Takes meta m (cond t (Link b g rb a (Some ra)) (Link a f ra b (Some rb))) (set_pair m.row a f b (Some g) (Some ra) (Some rb))) [
         | true ↦ λ less. record {
-          can = link_can b g rb a (Some ra) (mirror_may (get m.kind a) f (get m.kind b) g is typed) (ap (λ o. mirror_given o g (Some ra)) back ∙ ap not (less_not f g less)) none' room' (ap (λ o. mirror_room meta m o a) back ∙ room);
-          leaves = ap (λ o. record m { row = set_pair m.row b g a o (Some rb) (Some ra) }) back ∙ ap (λ r. record m { row = r }) (pair_swap meta sound m.row a f b g (Some ra) (Some rb) is);
+          can = link_can b g rb a (Some ra) (mirror_may (get m.kind a) f (get m.kind b) g is typed)
+              (ap (λ o. mirror_given o g (Some ra)) back ∙ ap not (less_not f g less)) none' room' (ap (λ o. mirror_room meta m o a) back ∙ room);
+          leaves = ap (λ o. record m { row = set_pair m.row b g a o (Some rb) (Some ra) }) back
+              ∙ ap (λ r. record m { row = r }) (pair_swap meta sound m.row a f b g (Some ra) (Some rb) is);
         }
         | false ↦ λ less. record {
-          can = link_can a f ra b (Some rb) typed (ap (λ o. mirror_given o f (Some rb)) is ∙ ap not less) none room (ap (λ o. mirror_room meta m o b) is ∙ room');
+          can = link_can a f ra b (Some rb) typed (ap (λ o. mirror_given o f (Some rb)) is ∙ ap not less) none room
+              (ap (λ o. mirror_room meta m o b) is ∙ room');
           leaves = ap (λ o. record m { row = set_pair m.row a f b o (Some ra) (Some rb) }) is;
         }
       ] refl
@@ -175,9 +192,11 @@ module _ (meta : Meta) (sound : Sound meta) (m : State) (good : Good meta m) whe
   link_takes a f ra b rb typed none room room' = link_by a f ra b rb (opposite_of meta f) refl typed none room room'
 
   -- ---- RerankRow
-  pub rerank_takes : (a : IdBytes) (f : ℕ) (b : IdBytes) (old new : ℕ) → get m.row (a, f, b) ≡ Some old → nat_eq old new ≡ false → Takes meta m (RerankRow a f b old new) (set m.row (a, f, b) (Some new))
+  pub rerank_takes : (a : IdBytes) (f : ℕ) (b : IdBytes) (old new : ℕ) → get m.row (a, f, b) ≡ Some old → nat_eq old new ≡ false
+      → Takes meta m (RerankRow a f b old new) (set m.row (a, f, b) (Some new))
   rerank_takes a f b old new here differ =
-      let typed : may_link meta (get m.kind a) f (get m.kind b) ≡ true = row_typed meta (get m.kind a) f (get m.kind b) (get m.row (a, f, b)) old here (good.rows.typed a f b) in
+      let typed : may_link meta (get m.kind a) f (get m.kind b) ≡ true =
+      row_typed meta (get m.kind a) f (get m.kind b) (get m.row (a, f, b)) old here (good.rows.typed a f b) in
       record {
         can = pass (tests meta m (RerankRow a f b old new)) (
           source_live meta _ f _ typed,

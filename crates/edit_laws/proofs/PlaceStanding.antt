@@ -22,7 +22,8 @@ use Rattle.model_state.proofs.Orders.{entry_order, id_order}
 use Rattle.model_state.proofs.StepTests.{place_equality}
 use Rattle.model_laws.proofs.Runs.{steps_keep_good}
 use Rattle.edit_laws.specs.Spot.{spot, end_spot}
-use Rattle.edit_laws.specs.Places.{Ranks, ranked_places, create_after, create_made, MayMoveWithin, move_within_after, move_within_made, move_to_after, move_to_made}
+use Rattle.edit_laws.specs.Places.{Ranks, ranked_places, create_after, create_made, MayMoveWithin, move_within_after, move_within_made, move_to_after}
+use Rattle.edit_laws.specs.Places.{move_to_made}
 use Rattle.edit_laws.specs.References.{without_entry, stands_at}
 use Rattle.edit_laws.specs.Standing.{reranked, StandsAt, Placed}
 use Rattle.edit_laws.specs.Laws.{CreateStands, MoveWithinStands, MoveToStands}
@@ -31,7 +32,8 @@ use Rattle.edit_laws.proofs.Pairs.{some_of}
 use Rattle.edit_laws.proofs.LinkEdits.{all_filter, none_without}
 use Rattle.edit_laws.proofs.Creates.{LiveHere, children_live, names_differ, one_child, spot_of, create_meets}
 use Rattle.edit_laws.proofs.MoveEdits.{children_there, placed, ranked_missing, not_there, move_within_meets, move_to_meets}
-use Rattle.edit_laws.proofs.Told.{Ranking, AllHeld, Tells, has_id, one_list, apart_filter, has-reranked, has-without, rises_filter, stands, stands_still, without_none}
+use Rattle.edit_laws.proofs.Told.{Ranking, AllHeld, Tells, has_id, one_list, apart_filter, has-reranked, has-without, rises_filter, stands}
+use Rattle.edit_laws.proofs.Told.{stands_still, without_none}
 
 -- the rank of an element in a place, by where it stands and its rank there
 abbrev pub rank_there : Place → Option Place → Option ℕ → Option ℕ
@@ -42,7 +44,8 @@ rank_there p (Some q) r = cond (place_eq p q) r None
 abbrev pub ranks_there : State → Place → Ranking
 ranks_there m p y = rank_there p (get m.place y) (get m.prank y)
 
-both_held : (m : State) (p : Place) (xs : List Entry) → AllByRecursion (λ (x : Entry). get m.place x.id ≡ Some p) xs → AllByRecursion (λ (x : Entry). get m.prank x.id ≡ Some x.rank) xs → AllHeld (ranks_there m p) xs
+both_held : (m : State) (p : Place) (xs : List Entry) → AllByRecursion (λ (x : Entry). get m.place x.id ≡ Some p) xs
+    → AllByRecursion (λ (x : Entry). get m.prank x.id ≡ Some x.rank) xs → AllHeld (ranks_there m p) xs
 both_held m p [] places ranks = tt
 both_held m p (x ∷ xs) places ranks = (
   ap (λ o. rank_there p o (get m.prank x.id)) places.0 ∙ ap (λ b. cond b (get m.prank x.id) None) (place_equality.own p) ∙ ranks.0,
@@ -80,14 +83,16 @@ module _ (meta : Meta) (m : State) (good : Good meta m) (p : Place) where
   }
 
 -- ---- the ranks that a place gets
-set_on : (e : IdBytes) (v : Option ℕ) (prank : Ranks) (xs : List Entry) → has_id e xs ≡ false → AllByRecursion (λ (x : Entry). get prank x.id ≡ Some x.rank) xs → AllByRecursion (λ (x : Entry). get (set prank e v) x.id ≡ Some x.rank) xs
+set_on : (e : IdBytes) (v : Option ℕ) (prank : Ranks) (xs : List Entry) → has_id e xs ≡ false
+    → AllByRecursion (λ (x : Entry). get prank x.id ≡ Some x.rank) xs → AllByRecursion (λ (x : Entry). get (set prank e v) x.id ≡ Some x.rank) xs
 set_on e v prank [] far held = tt
 set_on e v prank (x ∷ xs) far held = (
   get-set_other id_order prank e v x.id (names_differ e x.id (or_first (text_eq e x.id) _ far)) ∙ held.0,
   set_on e v prank xs (or_second (text_eq e x.id) _ far) held.1,
 )
 
-ranked_held : (xs : List Entry) (rs : List ℕ) (prank : Ranks) → Apart xs → AllByRecursion (λ (x : Entry). get prank x.id ≡ Some x.rank) xs → AllByRecursion (λ (x : Entry). get (ranked_places xs rs prank) x.id ≡ Some x.rank) (reranked xs rs)
+ranked_held : (xs : List Entry) (rs : List ℕ) (prank : Ranks) → Apart xs → AllByRecursion (λ (x : Entry). get prank x.id ≡ Some x.rank) xs
+    → AllByRecursion (λ (x : Entry). get (ranked_places xs rs prank) x.id ≡ Some x.rank) (reranked xs rs)
 ranked_held [] rs prank once held = tt
 ranked_held (x ∷ xs) [] prank once held = held
 ranked_held (x ∷ xs) (r ∷ rs) prank once held =
@@ -96,20 +101,25 @@ ranked_held (x ∷ xs) (r ∷ rs) prank once held =
       ranked_held xs rs next once.1 (set_on x.id (Some r) prank xs once.0 held.1),
     )
 
-placed_still : (m n : State) (p : Place) (e : IdBytes) → ((y : IdBytes) → text_eq e y ≡ false → get n.place y ≡ get m.place y) → (xs : List Entry) (rs : List ℕ) → has_id e xs ≡ false → AllByRecursion (λ (x : Entry). get m.place x.id ≡ Some p) xs → AllByRecursion (λ (x : Entry). get n.place x.id ≡ Some p) (reranked xs rs)
+placed_still : (m n : State) (p : Place) (e : IdBytes) → ((y : IdBytes) → text_eq e y ≡ false → get n.place y ≡ get m.place y)
+    → (xs : List Entry) (rs : List ℕ) → has_id e xs ≡ false → AllByRecursion (λ (x : Entry). get m.place x.id ≡ Some p) xs
+    → AllByRecursion (λ (x : Entry). get n.place x.id ≡ Some p) (reranked xs rs)
 placed_still m n p e alike [] rs far all = tt
 placed_still m n p e alike (x ∷ xs) [] far all = (alike x.id (or_first (text_eq e x.id) _ far) ∙ all.0, whole xs (or_second (text_eq e x.id) _ far) all.1)
   where
-    whole : (xs : List Entry) → has_id e xs ≡ false → AllByRecursion (λ (x : Entry). get m.place x.id ≡ Some p) xs → AllByRecursion (λ (x : Entry). get n.place x.id ≡ Some p) xs
+    whole : (xs : List Entry) → has_id e xs ≡ false → AllByRecursion (λ (x : Entry). get m.place x.id ≡ Some p) xs
+        → AllByRecursion (λ (x : Entry). get n.place x.id ≡ Some p) xs
     whole [] far all = tt
     whole (x ∷ xs) far all = (alike x.id (or_first (text_eq e x.id) _ far) ∙ all.0, whole xs (or_second (text_eq e x.id) _ far) all.1)
-placed_still m n p e alike (x ∷ xs) (r ∷ rs) far all = (alike x.id (or_first (text_eq e x.id) _ far) ∙ all.0, placed_still m n p e alike xs rs (or_second (text_eq e x.id) _ far) all.1)
+placed_still m n p e alike (x ∷ xs) (r ∷ rs) far all =
+    (alike x.id (or_first (text_eq e x.id) _ far) ∙ all.0, placed_still m n p e alike xs rs (or_second (text_eq e x.id) _ far) all.1)
 
 same_place : (x y : Place) → Some x ≡ Some y → x ≡ y
 same_place x y e = cc
 
 -- an element of the list stands in its place
-found : (m : State) (p : Place) (y : IdBytes) (xs : List Entry) → AllByRecursion (λ (x : Entry). get m.place x.id ≡ Some p) xs → has_id y xs ≡ true → get m.place y ≡ Some p
+found : (m : State) (p : Place) (y : IdBytes) (xs : List Entry) → AllByRecursion (λ (x : Entry). get m.place x.id ≡ Some p) xs → has_id y xs ≡ true
+    → get m.place y ≡ Some p
 found m p y [] all has = cc
 found m p y (x ∷ xs) all has =
     elim (text_eq y x.id) as (λ b. text_eq y x.id ≡ b → b || has_id y xs ≡ true → get m.place y ≡ Some p) [
@@ -126,7 +136,8 @@ pub record Arrives (m n : State) (p : Place) (e : IdBytes) (k r : ℕ) (others :
   pub within : k ≤ length others
   pub ranked : (spot others k).rank ≡ Some r
 
-module _ (meta : Meta) (m n : State) (good : Good meta m) (good' : Good meta n) (p : Place) (e : IdBytes) (k r : ℕ) (others : List Entry) (a : Arrives m n p e k r others) where
+module _ (meta : Meta) (m n : State) (good : Good meta m) (good' : Good meta n) (p : Place) (e : IdBytes) (k r : ℕ) (others : List Entry)
+    (a : Arrives m n p e k r others) where
   abbrev rs : List ℕ
   rs = (spot others k).ranks
 
@@ -140,24 +151,29 @@ module _ (meta : Meta) (m n : State) (good : Good meta m) (good' : Good meta n) 
   others_apart = subst Apart a.are (apart_filter (λ (x : Entry). not (text_eq e x.id)) (children m.place m.prank p) (children_tell meta m good p).once)
 
   others_there : AllByRecursion (λ (x : Entry). get m.place x.id ≡ Some p) others
-  others_there = subst (AllByRecursion (λ (x : Entry). get m.place x.id ≡ Some p)) a.are (all_filter (λ (x : Entry). get m.place x.id ≡ Some p) (λ (x : Entry). not (text_eq e x.id)) (children m.place m.prank p) (children_there m p))
+  others_there = subst (AllByRecursion (λ (x : Entry). get m.place x.id ≡ Some p)) a.are
+      (all_filter (λ (x : Entry). get m.place x.id ≡ Some p) (λ (x : Entry). not (text_eq e x.id)) (children m.place m.prank p) (children_there m p))
 
   others_ranks : AllByRecursion (λ (x : Entry). get m.prank x.id ≡ Some x.rank) others
-  others_ranks = subst (AllByRecursion (λ (x : Entry). get m.prank x.id ≡ Some x.rank)) a.are (all_filter (λ (x : Entry). get m.prank x.id ≡ Some x.rank) (λ (x : Entry). not (text_eq e x.id)) (children m.place m.prank p) (child_ranks meta m good p))
+  others_ranks = subst (AllByRecursion (λ (x : Entry). get m.prank x.id ≡ Some x.rank)) a.are
+      (all_filter (λ (x : Entry). get m.prank x.id ≡ Some x.rank) (λ (x : Entry). not (text_eq e x.id)) (children m.place m.prank p)
+      (child_ranks meta m good p))
 
   new_ranks : AllByRecursion (λ (x : Entry). get n.prank x.id ≡ Some x.rank) (reranked others rs)
   new_ranks = subst (λ w. AllByRecursion (λ (x : Entry). get w x.id ≡ Some x.rank) (reranked others rs)) (sym a.ranks)
       (set_on e (Some r) next (reranked others rs) (has-reranked e others rs ∙ far) (ranked_held others rs m.prank others_apart others_ranks))
 
   rank_kept : (y : IdBytes) → text_eq e y ≡ false → has_id y others ≡ false → get n.prank y ≡ get m.prank y
-  rank_kept y differ none = ap (λ w. get w y) a.ranks ∙ get-set_other id_order next e (Some r) y (names_differ e y differ) ∙ ranked_missing y others rs m.prank none
+  rank_kept y differ none =
+      ap (λ w. get w y) a.ranks ∙ get-set_other id_order next e (Some r) y (names_differ e y differ) ∙ ranked_missing y others rs m.prank none
 
   pub arrives_here : StandsAt (children m.place m.prank p) (children n.place n.prank p) e k
   arrives_here = stands (ranks_there m p) (ranks_there n p) (children m.place m.prank p) (children n.place n.prank p) others e k r (record {
     old = children_tell meta m good p;
     new = children_tell meta n good' p;
     are = a.are;
-    here = ap (λ o. rank_there p o (get n.prank e)) a.here ∙ ap (λ b. cond b (get n.prank e) None) (place_equality.own p) ∙ ap (λ w. get w e) a.ranks ∙ get-set_same id_order next e (Some r);
+    here = ap (λ o. rank_there p o (get n.prank e)) a.here ∙ ap (λ b. cond b (get n.prank e) None) (place_equality.own p) ∙ ap (λ w. get w e) a.ranks
+        ∙ get-set_same id_order next e (Some r);
     held = both_held n p (reranked others rs) (placed_still m n p e a.elsewhere others rs far others_there) new_ranks;
     still = λ y differ none. ap (λ o. rank_there p o (get n.prank y)) (a.elsewhere y differ) ∙ ap (rank_there p (get m.place y)) (rank_kept y differ none);
   }) a.within a.ranked
@@ -183,7 +199,8 @@ module _ (meta : Meta) (m n : State) (good : Good meta m) (good' : Good meta n) 
     held_out : (xs : List Entry) → AllHeld (ranks_there m q) xs → AllHeld (ranks_there n q) (without_entry e xs)
     held_out [] held = tt
     held_out (x ∷ xs) held =
-        elim (text_eq e x.id) as (λ b. text_eq e x.id ≡ b → AllHeld (ranks_there n q) (cond {A = List Entry} (not b) (x ∷ without_entry e xs) (without_entry e xs))) [
+        elim (text_eq e x.id) as (λ b. text_eq e x.id ≡ b
+        → AllHeld (ranks_there n q) (cond {A = List Entry} (not b) (x ∷ without_entry e xs) (without_entry e xs))) [
           | true ↦ λ _. held_out xs held.1
           | false ↦ λ differ. (alike x.id differ ∙ held.0, held_out xs held.1)
         ] refl
@@ -192,17 +209,19 @@ module _ (meta : Meta) (m n : State) (good : Good meta m) (good' : Good meta n) 
     has_out y s is =
         elim (text_eq e y) as (λ b. text_eq e y ≡ b → has_id y (without_entry e (children m.place m.prank q)) ≡ true) [
           | true ↦ λ same. absurd (some_none (ranks_there n q y) s is (
-              ap (ranks_there n q) (sym (text_equality.exact e y same)) ∙ ap (λ o. rank_there q o (get n.prank e)) a.here ∙ ap (λ b. cond b (get n.prank e) None) turned))
+              ap (ranks_there n q) (sym (text_equality.exact e y same)) ∙ ap (λ o. rank_there q o (get n.prank e)) a.here
+              ∙ ap (λ b. cond b (get n.prank e) None) turned))
           | false ↦ λ differ. has-without e y (children m.place m.prank q) differ ∙ (children_tell meta m good q).has y s (sym (alike y differ) ∙ is)
         ] refl
 
     pub arrives_others : children n.place n.prank q ≡ without_entry e (children m.place m.prank q)
-    arrives_others = one_list (children n.place n.prank q) (without_entry e (children m.place m.prank q)) (ranks_there n q) (children_tell meta n good' q) (record {
-      up = rises_filter (λ (x : Entry). not (text_eq e x.id)) (children m.place m.prank q) (children_tell meta m good q).up;
-      once = apart_filter (λ (x : Entry). not (text_eq e x.id)) (children m.place m.prank q) (children_tell meta m good q).once;
-      held = held_out (children m.place m.prank q) (children_tell meta m good q).held;
-      has = has_out;
-    })
+    arrives_others = one_list (children n.place n.prank q) (without_entry e (children m.place m.prank q)) (ranks_there n q)
+        (children_tell meta n good' q) (record {
+          up = rises_filter (λ (x : Entry). not (text_eq e x.id)) (children m.place m.prank q) (children_tell meta m good q).up;
+          once = apart_filter (λ (x : Entry). not (text_eq e x.id)) (children m.place m.prank q) (children_tell meta m good q).once;
+          held = held_out (children m.place m.prank q) (children_tell meta m good q).held;
+          has = has_out;
+        })
 
   pub arrives : Placed m n e p k
   arrives = record { here = arrives_here; others = arrives_others }
@@ -219,7 +238,8 @@ create_stands meta sound m good e c p may =
     let so : s.rank ≡ Some r = some_of s.rank may.ranked in
     let n : State = create_after m e c p in
     let good' : Good meta n = steps_keep_good meta sound m n good (create_made m e c p) (create_meets meta sound m good e c p may) in
-    let new : has_id e xs ≡ false = not_so (has_id e xs) (λ among. true_false (is_live m e) (placed meta m good e p (found m p e xs (children_there m p) among)).0 may.fresh) in
+    let new : has_id e xs ≡ false =
+    not_so (has_id e xs) (λ among. true_false (is_live m e) (placed meta m good e p (found m p e xs (children_there m p) among)).0 may.fresh) in
     arrives meta m n good good' p e (length xs) r xs (record {
       are = without_none e xs new;
       here = get-set_same id_order m.place e (Some p);
@@ -230,7 +250,8 @@ create_stands meta sound m good e c p may =
     })
 
 -- ---- move
-module _ (meta : Meta) (sound : Sound meta) (m : State) (good : Good meta m) (e : IdBytes) (p : Place) (k : ℕ) (may : MayMoveWithin m e p k) (inside : nat_le k (length (without_entry e (children m.place m.prank p))) ≡ true) where
+module _ (meta : Meta) (sound : Sound meta) (m : State) (good : Good meta m) (e : IdBytes) (p : Place) (k : ℕ) (may : MayMoveWithin m e p k)
+    (inside : nat_le k (length (without_entry e (children m.place m.prank p))) ≡ true) where
   abbrev rest : List Entry
   rest = without_entry e (children m.place m.prank p)
 
@@ -258,7 +279,8 @@ module _ (meta : Meta) (sound : Sound meta) (m : State) (good : Good meta m) (e 
 
   pub within_placed : Good meta (move_within_after m e p k) → Placed m (move_within_after m e p k) e p k
   within_placed =
-      elim (stands_at e k (children m.place m.prank p)) as (λ t. stands_at e k (children m.place m.prank p) ≡ t → Good meta (cond t m put) → Placed m (cond t m put) e p k) [
+      elim (stands_at e k (children m.place m.prank p)) as (λ t. stands_at e k (children m.place m.prank p) ≡ t → Good meta (cond t m put)
+      → Placed m (cond t m put) e p k) [
         | true ↦ λ at _. stays_placed at
         | false ↦ λ away good'. goes_placed away good'
       ] refl
@@ -275,7 +297,8 @@ move_to_stands meta sound m good e from to k up down may inside =
     let r = unwrap_or s.rank 0 in
     let so : s.rank ≡ Some r = some_of s.rank may.ranked in
     let n : State = move_to_after m e to k in
-    let good' : Good meta n = steps_keep_good meta sound m n good (move_to_made m e from to k up down) (move_to_meets meta sound m good e from to k up down may) in
+    let good' : Good meta n =
+    steps_keep_good meta sound m n good (move_to_made m e from to k up down) (move_to_meets meta sound m good e from to k up down may) in
     arrives meta m n good good' to e k r xs (record {
       are = without_none e xs (not_there meta m good e from to may.stands may.elsewhere);
       here = get-set_same id_order m.place e (Some to);

@@ -9,7 +9,8 @@ use Rattle.model_state.specs.Listing.{targets}
 use Rattle.model_state.specs.State.{State}
 use Rattle.edit_laws.specs.declared.fault.EditFault.{EditFault}
 use Rattle.edit_laws.specs.References.{holds_one, MaySet, MayLink, MayReorder}
-use Rattle.edit_laws.specs.Refusals.{first_refusal, set_ref_tests, set_ref_refusal, link_index, link_tests, link_refusal, unlink_tests, unlink_refusal, reorder_tests, reorder_refusal}
+use Rattle.edit_laws.specs.Refusals.{first_refusal, set_ref_tests, set_ref_refusal, link_index, link_tests, link_refusal, unlink_tests}
+use Rattle.edit_laws.specs.Refusals.{unlink_refusal, reorder_tests, reorder_refusal}
 
 -- all tests pass
 abbrev pub AllPass : List (Bool × EditFault) → Type 0

@@ -1,5 +1,6 @@
 -- Where the targets of references stand after an edit.
-use Rattle.std.proofs.Common.{◌≡◌, ℕ, ◌≤◌, suc, Bool, true, false, cond, not, List, [], ◌∷◌, refl, sym, ap, subst, ◌∙◌, ◌&&◌, ◌||◌, arith, length, nat_eq, nat_lt, nat_le, map}
+use Rattle.std.proofs.Common.{◌≡◌, ℕ, ◌≤◌, suc, Bool, true, false, cond, not, List, [], ◌∷◌, refl, sym, ap, subst, ◌∙◌, ◌&&◌, ◌||◌, arith, length}
+use Rattle.std.proofs.Common.{nat_eq, nat_lt, nat_le, map}
 use Rattle.std.proofs.lemmas.Bool.Decides.{nat_tests}
 use Rattle.std.specs.Prelude.{Option, None, Some, is_some, unwrap_or}
 use Rattle.std.specs.List.{filter}
@@ -24,7 +25,8 @@ use Rattle.model_state.specs.Listing.{is_of, row_entry, targets}
 use Rattle.model_state.proofs.Orders.{entry_order, row_order}
 use Rattle.edit_laws.specs.Spot.{spot, end_spot}
 use Rattle.edit_laws.specs.Rows.{Rows, is_row_or_mirror, clear, ranked}
-use Rattle.edit_laws.specs.References.{holds_one, clear_there, join, rank_there, without_entry, stands_at, MayLink, MayReorder, MaySet, link_after, reorder_after, set_ref_after}
+use Rattle.edit_laws.specs.References.{holds_one, clear_there, join, rank_there, without_entry, stands_at, MayLink, MayReorder, MaySet, link_after}
+use Rattle.edit_laws.specs.References.{reorder_after, set_ref_after}
 use Rattle.edit_laws.specs.Standing.{reranked, StandsAt, StandsLast, is_displaced, staying, is_list, is_end, Joined}
 use Rattle.edit_laws.proofs.Lists.{Apart, targets_held, targets_has, targets_apart, targets_alike}
 use Rattle.edit_laws.proofs.Pairs.{rows_apart, some_of}
@@ -35,7 +37,8 @@ use Rattle.edit_laws.proofs.LinkEdits as links
 use Rattle.edit_laws.proofs.Sets as sets
 use Rattle.edit_laws.proofs.Sets.{no_mirror}
 use Rattle.edit_laws.proofs.LinkEdits.{all_filter, left_targets, none_without, ranked_missing}
-use Rattle.edit_laws.proofs.Told.{Ranking, AllHeld, Tells, has_id, one_list, apart_filter, has-reranked, rises_filter, stands, stands_still, length_without, without_none}
+use Rattle.edit_laws.proofs.Told.{Ranking, AllHeld, Tells, has_id, one_list, apart_filter, has-reranked, rises_filter, stands, stands_still}
+use Rattle.edit_laws.proofs.Told.{length_without, without_none}
 use Rattle.model_state.specs.Ranks.{rank_gap}
 
 -- the targets of a feature have the ranks of its rows
@@ -51,14 +54,16 @@ targets_tell row a f = record {
 }
 
 -- ---- the ranks that a list gets
-held_on : (row : Rows) (a : IdBytes) (f : ℕ) (e : IdBytes) (v : Option ℕ) (xs : List Entry) → has_id e xs ≡ false → AllHeld (ranks_in row a f) xs → AllHeld (ranks_in (set row (a, f, e) v) a f) xs
+held_on : (row : Rows) (a : IdBytes) (f : ℕ) (e : IdBytes) (v : Option ℕ) (xs : List Entry) → has_id e xs ≡ false → AllHeld (ranks_in row a f) xs
+    → AllHeld (ranks_in (set row (a, f, e) v) a f) xs
 held_on row a f e v [] far held = tt
 held_on row a f e v (x ∷ xs) far held = (
   get-set_other row_order row (a, f, e) v (a, f, x.id) (targets_differ a f e x.id (or_first (text_eq e x.id) _ far)) ∙ held.0,
   held_on row a f e v xs (or_second (text_eq e x.id) _ far) held.1,
 )
 
-ranked_held : (a : IdBytes) (f : ℕ) (xs : List Entry) (rs : List ℕ) (row : Rows) → Apart xs → AllHeld (ranks_in row a f) xs → AllHeld (ranks_in (ranked a f xs rs row) a f) (reranked xs rs)
+ranked_held : (a : IdBytes) (f : ℕ) (xs : List Entry) (rs : List ℕ) (row : Rows) → Apart xs → AllHeld (ranks_in row a f) xs
+    → AllHeld (ranks_in (ranked a f xs rs row) a f) (reranked xs rs)
 ranked_held a f [] rs row once held = tt
 ranked_held a f (x ∷ xs) [] row once held = held
 ranked_held a f (x ∷ xs) (r ∷ rs) row once held =
@@ -79,7 +84,8 @@ module _ (row : Rows) (a : IdBytes) (f : ℕ) (b : IdBytes) (k r : ℕ) (others 
   others_apart = subst Apart are (apart_filter (λ (x : Entry). not (text_eq b x.id)) (targets row a f) (targets_apart row a f))
 
   others_held : AllHeld (ranks_in row a f) others
-  others_held = subst (AllHeld (ranks_in row a f)) are (all_filter (λ (x : Entry). get row (a, f, x.id) ≡ Some x.rank) (λ (x : Entry). not (text_eq b x.id)) (targets row a f) (targets_held row a f))
+  others_held = subst (AllHeld (ranks_in row a f)) are
+      (all_filter (λ (x : Entry). get row (a, f, x.id) ≡ Some x.rank) (λ (x : Entry). not (text_eq b x.id)) (targets row a f) (targets_held row a f))
 
   pub row_stands : k ≤ length others → (spot others k).rank ≡ Some r → StandsAt (targets row a f) (targets after a f) b k
   row_stands le is =
@@ -89,12 +95,15 @@ module _ (row : Rows) (a : IdBytes) (f : ℕ) (b : IdBytes) (k r : ℕ) (others 
         new = targets_tell after a f;
         are = are;
         here = get-set_same row_order next (a, f, b) (Some r);
-        held = held_on next a f b (Some r) (reranked others (spot others k).ranks) (has-reranked b others (spot others k).ranks ∙ far) (ranked_held a f others (spot others k).ranks row others_apart others_held);
-        still = λ y differ none. get-set_other row_order next (a, f, b) (Some r) (a, f, y) (targets_differ a f b y differ) ∙ ranked_missing a f y others (spot others k).ranks row none;
+        held = held_on next a f b (Some r) (reranked others (spot others k).ranks) (has-reranked b others (spot others k).ranks ∙ far)
+            (ranked_held a f others (spot others k).ranks row others_apart others_held);
+        still = λ y differ none. get-set_other row_order next (a, f, b) (Some r) (a, f, y) (targets_differ a f b y differ)
+            ∙ ranked_missing a f y others (spot others k).ranks row none;
       }) le is
 
 -- ---- rows that are removed
-filter_has : (p : Entry → Bool) (y : IdBytes) (r : ℕ) (g : Ranking) (xs : List Entry) → AllHeld g xs → g y ≡ Some r → has_id y xs ≡ true → p (record { rank = r; id = y }) ≡ true → has_id y (filter p xs) ≡ true
+filter_has : (p : Entry → Bool) (y : IdBytes) (r : ℕ) (g : Ranking) (xs : List Entry) → AllHeld g xs → g y ≡ Some r → has_id y xs ≡ true
+    → p (record { rank = r; id = y }) ≡ true → has_id y (filter p xs) ≡ true
 filter_has p y r g [] held is has pass = cc
 filter_has p y r g (x ∷ xs) held is has pass =
     elim (text_eq y x.id) as (λ b. text_eq y x.id ≡ b → has_id y (cond {A = List Entry} (p x) (x ∷ filter p xs) (filter p xs)) ≡ true) [
@@ -125,7 +134,9 @@ module _ (gone : RowKey → Bool) (row : Rows) (x : IdBytes) (h : ℕ) where
   kept_held : (es : List Entry) → AllHeld (ranks_in row x h) es → AllHeld (ranks_in (without gone row) x h) (filter (λ (e : Entry). not (gone (x, h, e.id))) es)
   kept_held [] held = tt
   kept_held (e ∷ es) held =
-      elim (gone (x, h, e.id)) as (λ b. gone (x, h, e.id) ≡ b → AllHeld (ranks_in (without gone row) x h) (cond {A = List Entry} (not b) (e ∷ filter (λ (e : Entry). not (gone (x, h, e.id))) es) (filter (λ (e : Entry). not (gone (x, h, e.id))) es))) [
+      elim (gone (x, h, e.id)) as (λ b. gone (x, h, e.id) ≡ b
+      → AllHeld (ranks_in (without gone row) x h)
+      (cond {A = List Entry} (not b) (e ∷ filter (λ (e : Entry). not (gone (x, h, e.id))) es) (filter (λ (e : Entry). not (gone (x, h, e.id))) es))) [
         | true ↦ λ _. kept_held es held.1
         | false ↦ λ stays. (get-without row_order gone row (x, h, e.id) ∙ ap (λ b. cond b None (get row (x, h, e.id))) stays ∙ held.0, kept_held es held.1)
       ] refl
@@ -134,17 +145,20 @@ module _ (gone : RowKey → Bool) (row : Rows) (x : IdBytes) (h : ℕ) where
   kept_has y r is =
       elim (gone (x, h, y)) as (λ b. gone (x, h, y) ≡ b → cond b None (get row (x, h, y)) ≡ Some r → has_id y (staying gone row x h) ≡ true) [
         | true ↦ λ _ none. cc
-        | false ↦ λ stays there. filter_has (λ (e : Entry). not (gone (x, h, e.id))) y r (ranks_in row x h) (targets row x h) (targets_held row x h) there (targets_has row x h y r there) (ap not stays)
+        | false ↦ λ stays there.
+            filter_has (λ (e : Entry). not (gone (x, h, e.id))) y r (ranks_in row x h) (targets row x h) (targets_held row x h) there
+            (targets_has row x h y r there) (ap not stays)
       ] refl (sym (get-without row_order gone row (x, h, y)) ∙ is)
 
   -- the list is what stays of it
   pub targets_without : targets (without gone row) x h ≡ staying gone row x h
-  targets_without = one_list (targets (without gone row) x h) (staying gone row x h) (ranks_in (without gone row) x h) (targets_tell (without gone row) x h) (record {
-    up = rises_filter (λ (e : Entry). not (gone (x, h, e.id))) (targets row x h) (targets_tell row x h).up;
-    once = apart_filter (λ (e : Entry). not (gone (x, h, e.id))) (targets row x h) (targets_apart row x h);
-    held = kept_held (targets row x h) (targets_held row x h);
-    has = kept_has;
-  })
+  targets_without = one_list (targets (without gone row) x h) (staying gone row x h) (ranks_in (without gone row) x h)
+      (targets_tell (without gone row) x h) (record {
+        up = rises_filter (λ (e : Entry). not (gone (x, h, e.id))) (targets row x h) (targets_tell row x h).up;
+        once = apart_filter (λ (e : Entry). not (gone (x, h, e.id))) (targets row x h) (targets_apart row x h);
+        held = kept_held (targets row x h) (targets_held row x h);
+        has = kept_has;
+      })
 
 -- where the opposite holds one, the rows to b are removed
 there_without : (meta : Meta) (o : Option ℕ) (f : ℕ) (b : IdBytes) (row : Rows) → clear_there meta o f b row ≡ without (is_displaced meta o f b) row
@@ -192,18 +206,22 @@ module _ (meta : Meta) (sound : Sound meta) (a : IdBytes) (f : ℕ) (ra : Option
   join_here (Some g) is = targets_alike (join (Some g) a f ra b row) (set row (a, f, b) ra) a f (λ y.
       get-set_other row_order (set (evened_row g) (a, f, b) ra) (b, g, a) (end_spot (there g)).rank (a, f, y) (rows_apart a f y b g a (sound.other f g is))
       ∙ get-set row_order (evened_row g) (a, f, b) ra (a, f, y)
-      ∙ ap (cond (eq_by_cmp row_cmp (a, f, y) (a, f, b)) ra) (ranked_other b g (there g) (end_spot (there g)).ranks row (a, f, y) (not_of b g a f y (apart nat_eq nat_equality f g (sound.other f g is))))
+      ∙ ap (cond (eq_by_cmp row_cmp (a, f, y) (a, f, b)) ra)
+      (ranked_other b g (there g) (end_spot (there g)).ranks row (a, f, y) (not_of b g a f y (apart nat_eq nat_equality f g (sound.other f g is))))
       ∙ sym (get-set row_order row (a, f, b) ra (a, f, y)))
 
   -- the opposite's list
-  pub join_there : (g : ℕ) → opposite_of meta f ≡ Some g → get row (b, g, a) ≡ None → is_some (end_spot (there g)).rank ≡ true → StandsLast (there g) (targets (join (Some g) a f ra b row) b g) a
+  pub join_there : (g : ℕ) → opposite_of meta f ≡ Some g → get row (b, g, a) ≡ None → is_some (end_spot (there g)).rank ≡ true
+      → StandsLast (there g) (targets (join (Some g) a f ra b row) b g) a
   join_there g is none some =
       let s = end_spot (there g) in
       let away : has_id a (there g) ≡ false = not_among (ranks_in row b g) a (there g) (targets_held row b g) none in
       let alone : without_entry a (there g) ≡ there g = without_none a (there g) away in
-      let list : targets (join (Some g) a f ra b row) b g ≡ targets (set (evened_row g) (b, g, a) s.rank) b g = targets_alike (join (Some g) a f ra b row) (set (evened_row g) (b, g, a) s.rank) b g (λ y.
+      let list : targets (join (Some g) a f ra b row) b g ≡ targets (set (evened_row g) (b, g, a) s.rank) b g =
+      targets_alike (join (Some g) a f ra b row) (set (evened_row g) (b, g, a) s.rank) b g (λ y.
       get-set row_order (set (evened_row g) (a, f, b) ra) (b, g, a) s.rank (b, g, y)
-      ∙ ap (cond (eq_by_cmp row_cmp (b, g, y) (b, g, a)) s.rank) (get-set_other row_order (evened_row g) (a, f, b) ra (b, g, y) (rows_apart b g y a f b (apart nat_eq nat_equality f g (sound.other f g is))))
+      ∙ ap (cond (eq_by_cmp row_cmp (b, g, y) (b, g, a)) s.rank)
+      (get-set_other row_order (evened_row g) (a, f, b) ra (b, g, y) (rows_apart b g y a f b (apart nat_eq nat_equality f g (sound.other f g is))))
       ∙ sym (get-set row_order (evened_row g) (b, g, a) s.rank (b, g, y))) in
       let last : StandsAt (there g) (targets (set (evened_row g) (b, g, a) (Some (unwrap_or s.rank 0))) b g) a (length (there g)) =
       row_stands row b g a (length (there g)) (unwrap_or s.rank 0) (there g) alone (omega arith) (some_of s.rank some) in
@@ -213,9 +231,11 @@ module _ (meta : Meta) (sound : Sound meta) (a : IdBytes) (f : ℕ) (ra : Option
 
   -- the other lists
   pub join_others : (o : Option ℕ) (x : IdBytes) (h : ℕ) → is_end o a f b x h ≡ false → targets (join o a f ra b row) x h ≡ targets row x h
-  join_others None x h away = targets_alike (set row (a, f, b) ra) row x h (λ y. get-set_other row_order row (a, f, b) ra (x, h, y) (other_list a f b x h y away))
+  join_others None x h away =
+      targets_alike (set row (a, f, b) ra) row x h (λ y. get-set_other row_order row (a, f, b) ra (x, h, y) (other_list a f b x h y away))
   join_others (Some g) x h away = targets_alike (join (Some g) a f ra b row) row x h (λ y.
-      get-set_other row_order (set (evened_row g) (a, f, b) ra) (b, g, a) (end_spot (there g)).rank (x, h, y) (other_list b g a x h y (or_second (is_list a f x h) _ away))
+      get-set_other row_order (set (evened_row g) (a, f, b) ra) (b, g, a) (end_spot (there g)).rank (x, h, y)
+      (other_list b g a x h y (or_second (is_list a f x h) _ away))
       ∙ get-set_other row_order (evened_row g) (a, f, b) ra (x, h, y) (other_list a f b x h y (or_first (is_list a f x h) _ away))
       ∙ ranked_other b g (there g) (end_spot (there g)).ranks row (x, h, y) (or_second (is_list a f x h) _ away))
 
@@ -223,7 +243,8 @@ module _ (meta : Meta) (sound : Sound meta) (a : IdBytes) (f : ℕ) (ra : Option
 number_le : (n k : ℕ) → nat_le n k ≡ true → n ≤ k
 number_le n k h = grind (arith, nat_tests)
 
-module _ (meta : Meta) (sound : Sound meta) (m : State) (good : Good meta m) (a : IdBytes) (f : ℕ) (b : IdBytes) (k : ℕ) (may : MayLink meta m a f b k) (inside : nat_le k (length (targets m.row a f)) ≡ true) where
+module _ (meta : Meta) (sound : Sound meta) (m : State) (good : Good meta m) (a : IdBytes) (f : ℕ) (b : IdBytes) (k : ℕ)
+    (may : MayLink meta m a f b k) (inside : nat_le k (length (targets m.row a f)) ≡ true) where
   abbrev left : Option ℕ → Rows
   left o = clear_there meta o f b m.row
 
@@ -247,7 +268,8 @@ module _ (meta : Meta) (sound : Sound meta) (m : State) (good : Good meta m) (a 
     ranked_so = some_of (spot (others o) k).rank (ap (λ xs. is_some (spot xs k).rank) same_list ∙ may.ranked)
 
     no_row : get (left o) (a, f, b) ≡ None
-    no_row = ap (λ row. get row (a, f, b)) (there_without meta o f b m.row) ∙ get-without row_order (is_displaced meta o f b) m.row (a, f, b) ∙ none_either (is_displaced meta o f b (a, f, b)) (get m.row (a, f, b)) may.absent
+    no_row = ap (λ row. get row (a, f, b)) (there_without meta o f b m.row) ∙ get-without row_order (is_displaced meta o f b) m.row (a, f, b)
+        ∙ none_either (is_displaced meta o f b (a, f, b)) (get m.row (a, f, b)) may.absent
       where
         none_either : (b : Bool) (o : Option ℕ) → o ≡ None → cond b None o ≡ None
         none_either true o h = refl
@@ -255,7 +277,8 @@ module _ (meta : Meta) (sound : Sound meta) (m : State) (good : Good meta m) (a 
 
     link_here : StandsAt (others o) (targets (linked o) a f) b k
     link_here =
-        let alone : without_entry b (others o) ≡ others o = without_none b (others o) (not_among (ranks_in (left o) a f) b (others o) (targets_held (left o) a f) no_row) in
+        let alone : without_entry b (others o) ≡ others o =
+        without_none b (others o) (not_among (ranks_in (left o) a f) b (others o) (targets_held (left o) a f) no_row) in
         let le : k ≤ length (others o) = subst (λ xs. k ≤ length xs) (sym same_list) (number_le k _ inside) in
         let r = unwrap_or (spot (others o) k).rank 0 in
         subst (λ zs. StandsAt (others o) zs b k) (sym (join_here meta sound a f (spot (others o) k).rank b (next o) o is))
@@ -274,12 +297,15 @@ module _ (meta : Meta) (sound : Sound meta) (m : State) (good : Good meta m) (a 
 
   link_there : (g : ℕ) (is : opposite_of meta f ≡ Some g) → StandsLast (staying (is_displaced meta (Some g) f b) m.row b g) (targets (linked (Some g)) b g) a
   link_there g is =
-      let same_there : targets (next (Some g)) b g ≡ targets (left (Some g)) b g = targets_alike (next (Some g)) (left (Some g)) b g (λ y. ranked_other a f (others (Some g)) (spot (others (Some g)) k).ranks (left (Some g)) (b, g, y) (not_of a f b g y (sound.other f g is))) in
+      let same_there : targets (next (Some g)) b g ≡ targets (left (Some g)) b g =
+      targets_alike (next (Some g)) (left (Some g)) b g
+      (λ y. ranked_other a f (others (Some g)) (spot (others (Some g)) k).ranks (left (Some g)) (b, g, y) (not_of a f b g y (sound.other f g is))) in
       let none : get (left (Some g)) (b, g, a) ≡ None =
       ap (λ row. get row (b, g, a)) (there_without meta (Some g) f b m.row) ∙ get-without row_order (is_displaced meta (Some g) f b) m.row (b, g, a)
       ∙ none_either (is_displaced meta (Some g) f b (b, g, a)) (get m.row (b, g, a)) (no_mirror meta sound m good a f b g is may.absent) in
       let rank : is_some (end_spot (targets (next (Some g)) b g)).rank ≡ true =
-      ap (λ xs. is_some (end_spot xs).rank) (links.others_are meta sound m good a f b k may (Some g) is) ∙ ap (λ o. is_some (rank_there meta m.row o b)) (sym is) ∙ may.ranked_there in
+      ap (λ xs. is_some (end_spot xs).rank) (links.others_are meta sound m good a f b k may (Some g) is)
+      ∙ ap (λ o. is_some (rank_there meta m.row o b)) (sym is) ∙ may.ranked_there in
       subst (λ xs. StandsLast xs (targets (linked (Some g)) b g) a) (same_there ∙ left_list (Some g) is b g)
       (join_there meta sound a f (spot (others (Some g)) k).rank b (next (Some g)) g is
       (ranked_other a f (others (Some g)) (spot (others (Some g)) k).ranks (left (Some g)) (b, g, a) (not_of a f b g a (sound.other f g is)) ∙ none) rank)
@@ -301,13 +327,15 @@ module _ (meta : Meta) (sound : Sound meta) (m : State) (good : Good meta m) (a 
   link_joins = joined_by (opposite_of meta f) refl
 
   pub link_comes : StandsAt (targets m.row a f) (targets (link_after meta a f b k m.row) a f) b k
-  link_comes = subst (λ xs. StandsAt xs (targets (linked (opposite_of meta f)) a f) b k) (same_list (opposite_of meta f) refl) (link_here (opposite_of meta f) refl)
+  link_comes = subst (λ xs. StandsAt xs (targets (linked (opposite_of meta f)) a f) b k) (same_list (opposite_of meta f) refl)
+      (link_here (opposite_of meta f) refl)
 
 pub link_stands : LinkStands
 link_stands meta sound m good a f b k may inside = (link_comes meta sound m good a f b k may inside, link_joins meta sound m good a f b k may inside)
 
 -- ---- set
-module _ (meta : Meta) (sound : Sound meta) (m : State) (good : Good meta m) (a : IdBytes) (f : ℕ) (b : IdBytes) (may : MaySet meta m a f b) (none : get m.row (a, f, b) ≡ None) where
+module _ (meta : Meta) (sound : Sound meta) (m : State) (good : Good meta m) (a : IdBytes) (f : ℕ) (b : IdBytes) (may : MaySet meta m a f b)
+    (none : get m.row (a, f, b) ≡ None) where
   abbrev gone : Option ℕ → RowKey → Bool
   gone o k = is_row_or_mirror o a f k || is_displaced meta o f b k
 
@@ -335,7 +363,8 @@ module _ (meta : Meta) (sound : Sound meta) (m : State) (good : Good meta m) (a 
       ap (λ row. get row (b, g, a)) (kept_without (Some g)) ∙ get-without row_order (gone (Some g)) m.row (b, g, a)
       ∙ none_either (gone (Some g) (b, g, a)) (get m.row (b, g, a)) (no_mirror meta sound m good a f b g is none) in
       let rank : is_some (end_spot (targets (kept (Some g)) b g)).rank ≡ true =
-      ap (λ xs. is_some (end_spot xs).rank) (sets.others_are meta sound m good a f b may none (Some g) is) ∙ ap (λ o. is_some (rank_there meta m.row o b)) (sym is) ∙ may.ranked none in
+      ap (λ xs. is_some (end_spot xs).rank) (sets.others_are meta sound m good a f b may none (Some g) is)
+      ∙ ap (λ o. is_some (rank_there meta m.row o b)) (sym is) ∙ may.ranked none in
       join_there meta sound a f (Some rank_gap) b (kept (Some g)) g is gone_row rank
     where
       none_either : (b : Bool) (o : Option ℕ) → o ≡ None → cond b None o ≡ None
@@ -353,7 +382,8 @@ module _ (meta : Meta) (sound : Sound meta) (m : State) (good : Good meta m) (a 
   }
 
   pub set_joins : Joined meta (gone (opposite_of meta f)) m.row (set_ref_after meta a f b m.row) a f b 0
-  set_joins = subst (λ row. Joined meta (gone (opposite_of meta f)) m.row row a f b 0) (sym (ap (λ (o : Option ℕ). cond (is_some o) m.row (set_row (opposite_of meta f))) none)) (set_joined (opposite_of meta f) refl)
+  set_joins = subst (λ row. Joined meta (gone (opposite_of meta f)) m.row row a f b 0)
+      (sym (ap (λ (o : Option ℕ). cond (is_some o) m.row (set_row (opposite_of meta f))) none)) (set_joined (opposite_of meta f) refl)
 
 pub set_ref_stands : SetRefStands
 set_ref_stands meta sound m good a f b may none = set_joins meta sound m good a f b may none
@@ -362,7 +392,8 @@ set_ref_stands meta sound m good a f b may none = set_joins meta sound m good a 
 number_lt : (n k : ℕ) → nat_lt n k ≡ true → suc n ≤ k
 number_lt n k h = grind (arith, nat_tests)
 
-module _ (meta : Meta) (m : State) (a : IdBytes) (f : ℕ) (b : IdBytes) (k : ℕ) (may : MayReorder m a f b k) (inside : nat_lt k (length (targets m.row a f)) ≡ true) where
+module _ (meta : Meta) (m : State) (a : IdBytes) (f : ℕ) (b : IdBytes) (k : ℕ) (may : MayReorder m a f b k)
+    (inside : nat_lt k (length (targets m.row a f)) ≡ true) where
   abbrev list : List Entry
   list = targets m.row a f
 
@@ -387,7 +418,8 @@ module _ (meta : Meta) (m : State) (a : IdBytes) (f : ℕ) (b : IdBytes) (k : �
         | false ↦ λ away.
             let r = unwrap_or (spot rest k).rank 0 in
             let so : (spot rest k).rank ≡ Some r = some_of (spot rest k).rank (may.ranked away) in
-            subst (λ w. StandsAt list (targets (set (ranked a f rest (spot rest k).ranks m.row) (a, f, b) w) a f) b k) (sym so) (row_stands m.row a f b k r rest refl le_rest so)
+            subst (λ w. StandsAt list (targets (set (ranked a f rest (spot rest k).ranks m.row) (a, f, b) w) a f) b k) (sym so)
+            (row_stands m.row a f b k r rest refl le_rest so)
       ] refl
 
   pub reorder_others : (x : IdBytes) (h : ℕ) → is_list a f x h ≡ false → targets (reorder_after a f b k m.row) x h ≡ targets m.row x h

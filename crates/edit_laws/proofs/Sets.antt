@@ -26,10 +26,12 @@ use Rattle.edit_laws.proofs.Joins.{leads_on, join_leads, join_steps, CanJoin, ta
 use Rattle.model_state.specs.Ranks.{rank_gap}
 
 -- a row that is not there is not missed
-pub clear_kept : (o : Option ℕ) (a : IdBytes) (f : ℕ) (row : Rows) (q : RowKey) → (is_row_or_mirror o a f q ≡ true → get row q ≡ None) → get (clear o a f row) q ≡ get row q
+pub clear_kept : (o : Option ℕ) (a : IdBytes) (f : ℕ) (row : Rows) (q : RowKey) → (is_row_or_mirror o a f q ≡ true → get row q ≡ None)
+    → get (clear o a f row) q ≡ get row q
 clear_kept o a f row q absent =
     get-without row_order (is_row_or_mirror o a f) row q
-    ∙ elim (is_row_or_mirror o a f q) as (λ b. is_row_or_mirror o a f q ≡ b → cond b None (get row q) ≡ get row q) [ true ↦ λ near. sym (absent near) | false ↦ λ _. refl ] refl
+    ∙ elim (is_row_or_mirror o a f q) as (λ b. is_row_or_mirror o a f q ≡ b
+    → cond b None (get row q) ≡ get row q) [ true ↦ λ near. sym (absent near) | false ↦ λ _. refl ] refl
 
 pub clear_gone : (o : Option ℕ) (a : IdBytes) (f : ℕ) (row : Rows) (q : RowKey) → is_row_or_mirror o a f q ≡ true → get (clear o a f row) q ≡ None
 clear_gone o a f row q near = get-without row_order (is_row_or_mirror o a f) row q ∙ ap (λ b. cond b None (get row q)) near
@@ -44,11 +46,14 @@ near_cases : (P : Type 0) (b c : Bool) → b || c ≡ true → (b ≡ true → P
 near_cases P true c h left right = left refl
 near_cases P false c h left right = right h
 
-unlinks_alike : (row row' : Rows) (o : Option ℕ) (a : IdBytes) (f : ℕ) → ((y : IdBytes) → mirror_rank row o a y ≡ mirror_rank row' o a y) → (xs : List Entry) → unlinks row o a f xs ≡ unlinks row' o a f xs
+unlinks_alike : (row row' : Rows) (o : Option ℕ) (a : IdBytes) (f : ℕ) → ((y : IdBytes) → mirror_rank row o a y ≡ mirror_rank row' o a y)
+    → (xs : List Entry) → unlinks row o a f xs ≡ unlinks row' o a f xs
 unlinks_alike row row' o a f alike [] = refl
-unlinks_alike row row' o a f alike (x ∷ xs) = let head = alike x.id in let rest = unlinks_alike row row' o a f alike xs in λ i. unlink_step o a f x.rank x.id (head i) ∷ rest i
+unlinks_alike row row' o a f alike (x ∷ xs) = let head = alike x.id in let rest = unlinks_alike row row' o a f alike xs
+    in λ i. unlink_step o a f x.rank x.id (head i) ∷ rest i
 
-module _ (meta : Meta) (sound : Sound meta) (m : State) (good : Good meta m) (a : IdBytes) (f : ℕ) (b : IdBytes) (g : ℕ) (is : opposite_of meta f ≡ Some g) (none : get m.row (a, f, b) ≡ None) where
+module _ (meta : Meta) (sound : Sound meta) (m : State) (good : Good meta m) (a : IdBytes) (f : ℕ) (b : IdBytes) (g : ℕ)
+    (is : opposite_of meta f ≡ Some g) (none : get m.row (a, f, b) ≡ None) where
   pub no_mirror : get m.row (b, g, a) ≡ None
   no_mirror = no_some _ (sym (good.rows.mirrored a f b g is) ∙ ap is_some none)
 
@@ -66,7 +71,8 @@ module _ (meta : Meta) (sound : Sound meta) (m : State) (good : Good meta m) (a 
       (λ mirror. absurd (true_false (nat_eq g f) (and_first _ _ mirror) (apart nat_eq nat_equality f g (sound.other f g is)))))
 
 -- the rows that b's opposite list displaces
-pub displace_leads : (meta : Meta) → Sound meta → (m : State) → Good meta m → (f : ℕ) (b : IdBytes) (o : Option ℕ) → opposite_of meta f ≡ o → Leads meta m (displace meta m.row o f b) (clear_there meta o f b m.row)
+pub displace_leads : (meta : Meta) → Sound meta → (m : State) → Good meta m → (f : ℕ) (b : IdBytes) (o : Option ℕ) → opposite_of meta f ≡ o
+    → Leads meta m (displace meta m.row o f b) (clear_there meta o f b m.row)
 displace_leads meta sound m good f b None is = stays meta m good
 displace_leads meta sound m good f b (Some g) is =
     elim (holds_one meta g) as (λ t. Leads meta m (cond t (unlinks m.row (Some f) b g (targets m.row b g)) []) (cond t (clear (Some f) b g m.row) m.row)) [
@@ -75,7 +81,8 @@ displace_leads meta sound m good f b (Some g) is =
     ]
 
 -- the end of the run, by the state that is left before it
-module _ (meta : Meta) (sound : Sound meta) (m : State) (good : Good meta m) (a : IdBytes) (f : ℕ) (b : IdBytes) (may : MaySet meta m a f b) (none : get m.row (a, f, b) ≡ None) where
+module _ (meta : Meta) (sound : Sound meta) (m : State) (good : Good meta m) (a : IdBytes) (f : ℕ) (b : IdBytes) (may : MaySet meta m a f b)
+    (none : get m.row (a, f, b) ≡ None) where
   abbrev gone : Option ℕ → Rows
   gone o = clear o a f m.row
 
@@ -109,40 +116,62 @@ module _ (meta : Meta) (sound : Sound meta) (m : State) (good : Good meta m) (a 
         | false ↦ targets_alike (gone (Some g)) m.row b g (there_kept meta sound m good a f b g is none)
       ]
 
-  room_left : (g : ℕ) → opposite_of meta f ≡ Some g → room_there meta m (Some g) b ≡ true → is_below (count (λ (e : RowKey × ℕ). is_of b g e.0) (left (Some g))) (row_upper meta g) ≡ true
+  room_left : (g : ℕ) → opposite_of meta f ≡ Some g → room_there meta m (Some g) b ≡ true
+      → is_below (count (λ (e : RowKey × ℕ). is_of b g e.0) (left (Some g))) (row_upper meta g) ≡ true
   room_left g is room =
-      elim (holds_one meta g) as (λ t. holds_one meta g ≡ t → t || is_below (row_count m b g) (row_upper meta g) ≡ true → is_below (count (λ (e : RowKey × ℕ). is_of b g e.0) (cond t (clear (Some f) b g (gone (Some g))) (gone (Some g)))) (row_upper meta g) ≡ true) [
-        | true ↦ λ one _. one_room meta (clear (Some f) b g (gone (Some g))) b g one (λ y. clear_gone (Some f) b g (gone (Some g)) (b, g, y) (own_near (Some f) b g y))
+      elim (holds_one meta g) as (λ t. holds_one meta g ≡ t → t || is_below (row_count m b g) (row_upper meta g) ≡ true
+      → is_below (count (λ (e : RowKey × ℕ). is_of b g e.0) (cond t (clear (Some f) b g (gone (Some g))) (gone (Some g))))
+      (row_upper meta g) ≡ true) [
+        | true ↦ λ one _. one_room meta (clear (Some f) b g (gone (Some g))) b g one
+            (λ y. clear_gone (Some f) b g (gone (Some g)) (b, g, y) (own_near (Some f) b g y))
         | false ↦ λ _ room. ap (λ n. is_below n (row_upper meta g)) (count_at (gone (Some g)) m.row b g (there_kept meta sound m good a f b g is none)) ∙ room
       ] refl room
 
-  can_join : (o : Option ℕ) → opposite_of meta f ≡ o → room_there meta m o b ≡ true → is_some (rank_there meta m.row o b) ≡ true → CanJoin meta (record m { row = left o }) o b
+  can_join : (o : Option ℕ) → opposite_of meta f ≡ o → room_there meta m o b ≡ true → is_some (rank_there meta m.row o b) ≡ true
+      → CanJoin meta (record m { row = left o }) o b
   can_join None is room rank = tt
   can_join (Some g) is room rank = (room_left g is room, ap (λ xs. is_some (end_spot xs).rank) (others_are (Some g) is) ∙ rank)
 
   -- the steps at the end are those that the state before gives
-  ends_alike : (o : Option ℕ) → opposite_of meta f ≡ o → (ra : ℕ) → join_steps o a f ra b (targets_there (left o) o b) ≡ reranks_there meta m.row o b ++ link_step o a f ra b (unwrap_or (rank_there meta m.row o b) 0) ∷ []
+  ends_alike : (o : Option ℕ) → opposite_of meta f ≡ o → (ra : ℕ)
+      → join_steps o a f ra b (targets_there (left o) o b) ≡ reranks_there meta m.row o b
+      ++ link_step o a f ra b (unwrap_or (rank_there meta m.row o b) 0) ∷ []
   ends_alike None is ra = refl
   ends_alike (Some g) is ra = ap (join_steps (Some g) a f ra b) (others_are (Some g) is)
 
   set_by : (o : Option ℕ) → opposite_of meta f ≡ o
-      → Leads meta m (unlinks m.row o a f (targets m.row a f) ++ (displace meta m.row o f b ++ (reranks_there meta m.row o b ++ link_step o a f rank_gap b (unwrap_or (rank_there meta m.row o b) 0) ∷ []))) (join o a f (Some rank_gap) b (left o))
+      → Leads meta m (unlinks m.row o a f (targets m.row a f)
+      ++ (displace meta m.row o f b
+      ++ (reranks_there meta m.row o b ++ link_step o a f rank_gap b (unwrap_or (rank_there meta m.row o b) 0) ∷ [])))
+      (join o a f (Some rank_gap) b (left o))
   set_by o is =
-      let first : Leads meta m (unlinks m.row o a f (targets m.row a f)) (gone o) = subst (λ o. Leads meta m (unlinks m.row o a f (targets m.row a f)) (clear o a f m.row)) is (clear_leads meta sound a f m good) in
+      let first : Leads meta m (unlinks m.row o a f (targets m.row a f)) (gone o) =
+      subst (λ o. Leads meta m (unlinks m.row o a f (targets m.row a f)) (clear o a f m.row)) is (clear_leads meta sound a f m good) in
       let n : State = record m { row = gone o } in
-      let second : Leads meta n (displace meta m.row o f b) (left o) = subst (λ ss. Leads meta n ss (left o)) (sym (displaces_alike o is)) (displace_leads meta sound n first.good f b o is) in
+      let second : Leads meta n (displace meta m.row o f b) (left o) =
+      subst (λ ss. Leads meta n ss (left o)) (sym (displaces_alike o is)) (displace_leads meta sound n first.good f b o is) in
       let k : State = record m { row = left o } in
       let room : room_there meta m o b ≡ true = ap (λ o. room_there meta m o b) (sym is) ∙ may.room none in
       let rank : is_some (rank_there meta m.row o b) ≡ true = ap (λ o. is_some (rank_there meta m.row o b)) (sym is) ∙ may.ranked none in
-      let third = join_leads meta sound k second.good a f rank_gap b may.typed (none_left o b) (one_room meta (left o) a f may.one (none_left o)) o is (can_join o is room rank) in
+      let third = join_leads meta sound k second.good a f rank_gap b may.typed (none_left o b) (one_room meta (left o) a f may.one (none_left o)) o is
+      (can_join o is room rank) in
       leads_on meta m _ _ (gone o) _ first
       (leads_on meta n _ _ (left o) _ second
       (subst (λ ss. Leads meta k ss (join o a f (Some rank_gap) b (left o))) (ends_alike o is rank_gap) third))
 
 pub set_ref_meets : SetRefMeets
 set_ref_meets meta sound m good a f b may =
-    elim (get m.row (a, f, b)) as (λ r. get m.row (a, f, b) ≡ r → fold meta m (cond (is_some r) [] (unlinks m.row (opposite_of meta f) a f (targets m.row a f) ++ (displace meta m.row (opposite_of meta f) f b ++ (reranks_there meta m.row (opposite_of meta f) b ++ link_step (opposite_of meta f) a f rank_gap b (unwrap_or (rank_there meta m.row (opposite_of meta f) b) 0) ∷ []))))
-    ≡ Some (record m { row = cond (is_some r) m.row (join (opposite_of meta f) a f (Some rank_gap) b (clear_there meta (opposite_of meta f) f b (clear (opposite_of meta f) a f m.row))) })) [
+    elim (get m.row (a, f, b)) as (λ r. get m.row (a, f, b) ≡ r
+    → fold meta m (cond (is_some r) []
+    (unlinks m.row (opposite_of meta f) a f (targets m.row a f)
+    ++ (displace meta m.row (opposite_of meta f) f b
+    ++ (reranks_there meta m.row (opposite_of meta f) b
+    ++ link_step (opposite_of meta f) a f rank_gap b (unwrap_or (rank_there meta m.row (opposite_of meta f) b) 0) ∷ []))))
+    ≡ Some (record m {
+      row =
+          cond (is_some r) m.row
+          (join (opposite_of meta f) a f (Some rank_gap) b (clear_there meta (opposite_of meta f) f b (clear (opposite_of meta f) a f m.row)));
+    })) [
       | None ↦ λ none. (set_by meta sound m good a f b may none (opposite_of meta f) refl).run
       | Some r ↦ λ _. refl
     ] refl

@@ -1,6 +1,7 @@
 -- An entry with the rank of a spot stands at its index.
 use Rattle.std.proofs.lemmas.Bool.Decides.{nat_tests}
-use Rattle.std.proofs.Common.{◌≡◌, ℕ, ◌+◌, ◌*◌, ◌-◌, ◌/◌, ◌<◌, ◌≤◌, suc, zero, Bool, true, false, cond, List, [], ◌∷◌, length, refl, sym, ap, subst, ◌∙◌, arith, nat_eq, nat_lt}
+use Rattle.std.proofs.Common.{◌≡◌, ℕ, ◌+◌, ◌*◌, ◌-◌, ◌/◌, ◌<◌, ◌≤◌, suc, zero, Bool, true, false, cond, List, [], ◌∷◌, length, refl, sym, ap, subst}
+use Rattle.std.proofs.Common.{◌∙◌, arith, nat_eq, nat_lt}
 use Rattle.std.specs.Prelude.{Option, None, Some, unwrap_or, slice_get}
 use Rattle.std.specs.List.{AllByRecursion, insert}
 use Rattle.std.specs.declared.cmp.Ordering.{Ordering}
@@ -37,7 +38,8 @@ put_at : (new : Entry) (k : ℕ) (ys : List Entry) → Fits new k ys → put_in 
 put_at new zero [] fits = refl
 put_at new zero (y ∷ ys) fits = ap (λ b. cond {A = List Entry} b (y ∷ put_in entry_cmp new ys) (new ∷ y ∷ ys)) fits
 put_at new (suc k) [] fits = absurd fits
-put_at new (suc k) (y ∷ ys) fits = ap (λ b. cond {A = List Entry} b (y ∷ put_in entry_cmp new ys) (new ∷ y ∷ ys)) fits.0 ∙ ap (λ zs. y ∷ zs) (put_at new k ys fits.1)
+put_at new (suc k) (y ∷ ys) fits =
+    ap (λ b. cond {A = List Entry} b (y ∷ put_in entry_cmp new ys) (new ∷ y ∷ ys)) fits.0 ∙ ap (λ zs. y ∷ zs) (put_at new k ys fits.1)
 
 -- ---- the rank between two
 -- the rank before an index, lo before the first
@@ -54,7 +56,9 @@ before_is lo (r ∷ rs) (suc k) h = before_is r rs k (omega arith)
 between_is : (rs : List ℕ) (k : ℕ) → k ≤ length rs → rank_for rs k ≡ rank_between (before 0 rs k) (slice_get rs k)
 between_is rs zero h = refl
 between_is rs (suc k) h =
-    ap (λ n. rank_between n (slice_get rs (suc k))) (ap (λ b. cond b 0 (unwrap_or (slice_get rs (suc k - 1)) 0)) (not_zero k) ∙ ap (λ j. unwrap_or (slice_get rs j) 0) (one_less k) ∙ before_is 0 rs k h)
+    ap (λ n. rank_between n (slice_get rs (suc k)))
+    (ap (λ b. cond b 0 (unwrap_or (slice_get rs (suc k - 1)) 0)) (not_zero k) ∙ ap (λ j. unwrap_or (slice_get rs j) 0) (one_less k)
+    ∙ before_is 0 rs k h)
   where
     not_zero : (k : ℕ) → nat_eq (suc k) 0 ≡ false
     not_zero k = grind (arith, nat_tests)
@@ -83,7 +87,8 @@ within lo hi r h =
     halved is wide = (omega arith, omega arith)
 
 -- where there is a rank between those of a list that rises, it fits in there
-fits_between : (e : IdBytes) (r lo : ℕ) (xs : List Entry) (k : ℕ) → Rises entry_cmp xs → AllByRecursion (λ (x : Entry). lo ≤ x.rank) xs → k ≤ length xs → rank_between (before lo (ranks_of xs) k) (slice_get (ranks_of xs) k) ≡ Some r
+fits_between : (e : IdBytes) (r lo : ℕ) (xs : List Entry) (k : ℕ) → Rises entry_cmp xs → AllByRecursion (λ (x : Entry). lo ≤ x.rank) xs
+    → k ≤ length xs → rank_between (before lo (ranks_of xs) k) (slice_get (ranks_of xs) k) ≡ Some r
     → (lo < r) × Fits (record { rank = r; id = e }) k xs
 fits_between e r lo [] zero up all le h = (above_last lo r _ h, tt)
 fits_between e r lo [] (suc k) up all le h = absurd (omega arith)
@@ -101,8 +106,10 @@ all_least : (xs : List Entry) → AllByRecursion (λ (x : Entry). 0 ≤ x.rank) 
 all_least [] = tt
 all_least (x ∷ xs) = (omega arith, all_least xs)
 
-fits_for : (e : IdBytes) (r : ℕ) (xs : List Entry) (k : ℕ) → Rises entry_cmp xs → k ≤ length xs → rank_for (ranks_of xs) k ≡ Some r → Fits (record { rank = r; id = e }) k xs
-fits_for e r xs k up le h = (fits_between e r 0 xs k up (all_least xs) le (sym (between_is (ranks_of xs) k (subst (λ n. k ≤ n) (sym (length_ranks xs)) le)) ∙ h)).1
+fits_for : (e : IdBytes) (r : ℕ) (xs : List Entry) (k : ℕ) → Rises entry_cmp xs → k ≤ length xs → rank_for (ranks_of xs) k ≡ Some r
+    → Fits (record { rank = r; id = e }) k xs
+fits_for e r xs k up le h =
+    (fits_between e r 0 xs k up (all_least xs) le (sym (between_is (ranks_of xs) k (subst (λ n. k ≤ n) (sym (length_ranks xs)) le)) ∙ h)).1
   where
     length_ranks : (xs : List Entry) → length (ranks_of xs) ≡ length xs
     length_ranks [] = refl
@@ -148,7 +155,8 @@ ranks_evened n (x ∷ xs) = ap (λ l. (n * rank_gap) ∷ l) (ranks_evened (n + 1
 
 above_evened : (x : Entry) (n : ℕ) (xs : List Entry) → x.rank < n * rank_gap → AllByRecursion (λ y. is_lt (entry_cmp y x) ≡ false) (reranked xs (evened n xs))
 above_evened x n [] h = tt
-above_evened x n (y ∷ ys) h = (first_greater (nat_cmp (n * rank_gap) x.rank) (id_cmp y.id x.id) (nat_greater (n * rank_gap) x.rank h), above_evened x (n + 1) ys (omega arith))
+above_evened x n (y ∷ ys) h =
+    (first_greater (nat_cmp (n * rank_gap) x.rank) (id_cmp y.id x.id) (nat_greater (n * rank_gap) x.rank h), above_evened x (n + 1) ys (omega arith))
 
 rises_evened : (n : ℕ) (xs : List Entry) → Rises entry_cmp (reranked xs (evened n xs))
 rises_evened n [] = tt
@@ -160,7 +168,8 @@ pub record Opens (new : Entry) (k : ℕ) (ys : List Entry) : Type 0 where
   pub up : Rises entry_cmp ys
   pub fits : Fits new k ys
 
-opens_by : (xs : List Entry) (k r : ℕ) (e : IdBytes) → Rises entry_cmp xs → k ≤ length xs → (o : Option ℕ) → rank_for (ranks_of xs) k ≡ o → (spot_by o xs k).rank ≡ Some r
+opens_by : (xs : List Entry) (k r : ℕ) (e : IdBytes) → Rises entry_cmp xs → k ≤ length xs → (o : Option ℕ) → rank_for (ranks_of xs) k ≡ o
+    → (spot_by o xs k).rank ≡ Some r
     → Opens (record { rank = r; id = e }) k (reranked xs (spot_by o xs k).ranks)
 opens_by xs k r e up le (Some q) is h =
     subst (λ ys. Opens (record { rank = r; id = e }) k ys) (sym (reranked_same xs)) (record { up = up; fits = fits_for e r xs k up le (is ∙ h) })
@@ -168,14 +177,16 @@ opens_by xs k r e up le None is h =
     let ys = reranked xs (evened 1 xs) in
     record {
       up = rises_evened 1 xs;
-      fits = fits_for e r ys k (rises_evened 1 xs) (subst (λ n. k ≤ n) (sym (length-reranked xs (evened 1 xs))) le) (ap (λ rs. rank_for rs k) (ranks_evened 1 xs) ∙ there (nat_lt (length xs) most_entries) h);
+      fits = fits_for e r ys k (rises_evened 1 xs) (subst (λ n. k ≤ n) (sym (length-reranked xs (evened 1 xs))) le)
+          (ap (λ rs. rank_for rs k) (ranks_evened 1 xs) ∙ there (nat_lt (length xs) most_entries) h);
     }
   where
     there : (b : Bool) → cond b (rank_for (evened 1 xs) k) None ≡ Some r → rank_for (evened 1 xs) k ≡ Some r
     there true h = h
     there false h = cc
 
-pub opens : (xs : List Entry) (k r : ℕ) (e : IdBytes) → Rises entry_cmp xs → k ≤ length xs → (spot xs k).rank ≡ Some r → Opens (record { rank = r; id = e }) k (reranked xs (spot xs k).ranks)
+pub opens : (xs : List Entry) (k r : ℕ) (e : IdBytes) → Rises entry_cmp xs → k ≤ length xs → (spot xs k).rank ≡ Some r
+    → Opens (record { rank = r; id = e }) k (reranked xs (spot xs k).ranks)
 opens xs k r e up le h = opens_by xs k r e up le (rank_for (ranks_of xs) k) refl h
 
 ids-insert : (ys : List Entry) (k : ℕ) (new : Entry) → ids_of (insert ys k new) ≡ insert (ids_of ys) k new.id

@@ -65,7 +65,8 @@ same_entry g x y here there same =
     same_number : (n k : ℕ) → Some n ≡ Some k → n ≡ k
     same_number n k e = cc
 
-low : (g : Ranking) (x y : Entry) (zs : List Entry) → g x.id ≡ Some x.rank → AllHeld g zs → AllByRecursion (λ z. is_lt (entry_cmp z y) ≡ false) zs → has_id x.id zs ≡ true → is_lt (entry_cmp x y) ≡ false
+low : (g : Ranking) (x y : Entry) (zs : List Entry) → g x.id ≡ Some x.rank → AllHeld g zs → AllByRecursion (λ z. is_lt (entry_cmp z y) ≡ false) zs
+    → has_id x.id zs ≡ true → is_lt (entry_cmp x y) ≡ false
 low g x y [] here held above is = cc
 low g x y (z ∷ zs) here held above is =
     elim (text_eq x.id z.id) as (λ b. text_eq x.id z.id ≡ b → is_lt (entry_cmp x y) ≡ false) [
@@ -79,7 +80,8 @@ but e g y = cond (text_eq e y) None (g y)
 
 held_but : (g : Ranking) (e : IdBytes) (xs : List Entry) → has_id e xs ≡ false → AllHeld g xs → AllHeld (but e g) xs
 held_but g e [] far held = tt
-held_but g e (x ∷ xs) far held = (ap (λ b. cond b None (g x.id)) (or_first (text_eq e x.id) _ far) ∙ held.0, held_but g e xs (or_second (text_eq e x.id) _ far) held.1)
+held_but g e (x ∷ xs) far held =
+    (ap (λ b. cond b None (g x.id)) (or_first (text_eq e x.id) _ far) ∙ held.0, held_but g e xs (or_second (text_eq e x.id) _ far) held.1)
 
 tail_tells : (g : Ranking) (x : Entry) (xs : List Entry) → Tells g (x ∷ xs) → Tells (but x.id g) xs
 tail_tells g x xs t = record {
@@ -130,7 +132,9 @@ at_most_one i (x ∷ xs) once =
     further n h = omega arith
 
 pub ordered_apart : (xs : List Entry) → Apart xs → Apart (in_order entry_cmp xs)
-ordered_apart xs once = apart_from (in_order entry_cmp xs) (λ i. subst (λ n. n ≤ 1) (sym (tally-in_order entry_cmp (λ (x : Entry). text_eq i x.id) xs)) (at_most_one i xs once))
+ordered_apart xs once =
+    apart_from (in_order entry_cmp xs)
+    (λ i. subst (λ n. n ≤ 1) (sym (tally-in_order entry_cmp (λ (x : Entry). text_eq i x.id) xs)) (at_most_one i xs once))
 
 pub has-reranked : (y : IdBytes) (xs : List Entry) (rs : List ℕ) → has_id y (reranked xs rs) ≡ has_id y xs
 has-reranked y [] rs = refl
@@ -146,9 +150,11 @@ apart-reranked (x ∷ xs) (r ∷ rs) once = (has-reranked x.id xs rs ∙ once.0,
 pub has-without : (e y : IdBytes) (xs : List Entry) → text_eq e y ≡ false → has_id y (without_entry e xs) ≡ has_id y xs
 has-without e y [] differ = refl
 has-without e y (x ∷ xs) differ =
-    elim (text_eq e x.id) as (λ b. text_eq e x.id ≡ b → has_id y (cond {A = List Entry} (not b) (x ∷ without_entry e xs) (without_entry e xs)) ≡ text_eq y x.id || has_id y xs) [
+    elim (text_eq e x.id) as (λ b. text_eq e x.id ≡ b
+    → has_id y (cond {A = List Entry} (not b) (x ∷ without_entry e xs) (without_entry e xs)) ≡ text_eq y x.id || has_id y xs) [
       | true ↦ λ same.
-          let other : text_eq y x.id ≡ false = apart text_eq text_equality x.id y (ap (λ (w : IdBytes). text_eq w y) (sym (text_equality.exact e x.id same)) ∙ differ) in
+          let other : text_eq y x.id ≡ false =
+          apart text_eq text_equality x.id y (ap (λ (w : IdBytes). text_eq w y) (sym (text_equality.exact e x.id same)) ∙ differ) in
           has-without e y xs differ ∙ ap (λ b. b || has_id y xs) (sym other)
       | false ↦ λ _. ap (λ b. text_eq y x.id || b) (has-without e y xs differ)
     ] refl
@@ -190,7 +196,8 @@ module _ (p : Entry → Bool) where
 pub length_without : (e : IdBytes) (xs : List Entry) → Apart xs → has_id e xs ≡ true → length xs ≡ suc (length (without_entry e xs))
 length_without e [] once is = cc
 length_without e (x ∷ xs) once is =
-    elim (text_eq e x.id) as (λ b. text_eq e x.id ≡ b → suc (length xs) ≡ suc (length (cond {A = List Entry} (not b) (x ∷ without_entry e xs) (without_entry e xs)))) [
+    elim (text_eq e x.id) as (λ b. text_eq e x.id ≡ b
+    → suc (length xs) ≡ suc (length (cond {A = List Entry} (not b) (x ∷ without_entry e xs) (without_entry e xs)))) [
       | true ↦ λ same. ap (λ l. suc (length l)) (sym (without_none e xs (ap (λ (w : IdBytes). has_id w xs) (text_equality.exact e x.id same) ∙ once.0)))
       | false ↦ λ differ. ap suc (length_without e xs once.1 (other_or (text_eq e x.id) _ is differ))
     ] refl
@@ -211,12 +218,14 @@ stands_still e zero (x ∷ xs) once at =
     let same : x.id ≡ e = text_equality.exact x.id e at in
     let far : has_id e xs ≡ false = ap (λ (w : IdBytes). has_id w xs) (sym same) ∙ once.0 in
     let own : text_eq e x.id ≡ true = ap (text_eq e) same ∙ text_equality.own e in
-    let rest : without_entry e (x ∷ xs) ≡ xs = ap (λ b. cond {A = List Entry} (not b) (x ∷ without_entry e xs) (without_entry e xs)) own ∙ without_none e xs far in
+    let rest : without_entry e (x ∷ xs) ≡ xs =
+    ap (λ b. cond {A = List Entry} (not b) (x ∷ without_entry e xs) (without_entry e xs)) own ∙ without_none e xs far in
     ap (λ i. i ∷ ids_of xs) same ∙ ap (λ l. e ∷ ids_of l) (sym rest)
 stands_still e (suc k) (x ∷ xs) once at =
     let differ : text_eq e x.id ≡ false = not_so (text_eq e x.id) (λ same.
     true_false (has_id e xs) (stands_in e k xs at) (ap (λ (w : IdBytes). has_id w xs) (text_equality.exact e x.id same) ∙ once.0)) in
-    let rest : without_entry e (x ∷ xs) ≡ x ∷ without_entry e xs = ap (λ b. cond {A = List Entry} (not b) (x ∷ without_entry e xs) (without_entry e xs)) differ in
+    let rest : without_entry e (x ∷ xs) ≡ x ∷ without_entry e xs =
+    ap (λ b. cond {A = List Entry} (not b) (x ∷ without_entry e xs) (without_entry e xs)) differ in
     ap (λ l. x.id ∷ l) (stands_still e k xs once.1 at) ∙ ap (λ l. insert (ids_of l) (suc k) e) (sym rest)
 
 module _ (g h : Ranking) (xs zs others : List Entry) (rs : List ℕ) (e : IdBytes) (r : ℕ) where
@@ -254,13 +263,17 @@ module _ (g h : Ranking) (xs zs others : List Entry) (rs : List ℕ) (e : IdByte
     pub comes : zs ≡ in_order entry_cmp (record { rank = r; id = e } ∷ reranked others rs)
     comes = one_list zs (in_order entry_cmp all) h c.new (record {
       up = rises-in_order entry_order all;
-      once = ordered_apart all (has-reranked e others rs ∙ far, apart-reranked others rs (subst Apart c.are (apart_filter (λ (x : Entry). not (text_eq e x.id)) xs c.old.once)));
+      once = ordered_apart all (
+        has-reranked e others rs ∙ far,
+        apart-reranked others rs (subst Apart c.are (apart_filter (λ (x : Entry). not (text_eq e x.id)) xs c.old.once)),
+      );
       held = all-in_order entry_cmp (λ (x : Entry). h x.id ≡ Some x.rank) all (c.here, c.held);
       has = λ y s is. any-in_order entry_cmp (λ (x : Entry). text_eq y x.id) all ∙ there y s is;
     })
 
 -- with the ranks of the spot at an index of the others, the element stands there
-pub stands : (g h : Ranking) (xs zs others : List Entry) (e : IdBytes) (k r : ℕ) → Comes g h xs zs others (spot others k).ranks e r → k ≤ length others → (spot others k).rank ≡ Some r → StandsAt xs zs e k
+pub stands : (g h : Ranking) (xs zs others : List Entry) (e : IdBytes) (k r : ℕ) → Comes g h xs zs others (spot others k).ranks e r
+    → k ≤ length others → (spot others k).rank ≡ Some r → StandsAt xs zs e k
 stands g h xs zs others e k r c le is =
     ap ids_of (comes g h xs zs others (spot others k).ranks e r c)
     ∙ spot_opens others k r e (subst (Rises entry_cmp) c.are (rises_filter (λ (x : Entry). not (text_eq e x.id)) xs c.old.up)) le is

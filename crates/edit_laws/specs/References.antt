@@ -153,7 +153,8 @@ reorder_made row a f b k =
     let xs = targets row a f in
     let others = without_entry b xs in
     let s = spot others k in
-    cond (stands_at b k xs) [] (reranks a f others s.ranks ++ reranks a f (record { rank = unwrap_or (get row (a, f, b)) 0; id = b } ∷ []) (unwrap_or s.rank 0 ∷ []))
+    cond (stands_at b k xs) []
+    (reranks a f others s.ranks ++ reranks a f (record { rank = unwrap_or (get row (a, f, b)) 0; id = b } ∷ []) (unwrap_or s.rank 0 ∷ []))
 
 -- it may be put at the index
 pub record MayReorder (m : State) (a : IdBytes) (f : ℕ) (b : IdBytes) (k : ℕ) : Type 0 where

@@ -28,15 +28,18 @@ module _ (meta : Meta) (m : State) (good : Good meta m) where
   is_chain p live = chain_of p (has_chain meta m good p live)
 
   -- the steps of a move are those that are made, and its refusal the one that is due
-  pub move_is : (e : IdBytes) (to : Place) (at : Option ℕ) (steps : List Step) → IsMove m e to at steps → steps ≡ move_made m e to at (containers_of m (place_of m e)) (containers_of m to)
+  pub move_is : (e : IdBytes) (to : Place) (at : Option ℕ) (steps : List Step) → IsMove m e to at steps
+      → steps ≡ move_made m e to at (containers_of m (place_of m e)) (containers_of m to)
   move_is e to at steps move =
       let up = sym (containers_are (place_of m e) move.up move.above_from) in
       let down = sym (containers_are to move.down move.above_to) in
       move.made ∙ (λ i. move_made m e to at (up i) (down i))
 
-  pub refusal_is : (e : IdBytes) (to : Place) (at : Option ℕ) (first : Option MoveFault) → HasRefusal meta m e to at first → move_refusal meta m e to (containers_of m to) at ≡ first
+  pub refusal_is : (e : IdBytes) (to : Place) (at : Option ℕ) (first : Option MoveFault) → HasRefusal meta m e to at first
+      → move_refusal meta m e to (containers_of m to) at ≡ first
   refusal_is e to at first has = ap (λ down. move_refusal meta m e to down at) (containers_are to has.down has.above_to) ∙ has.first_is
 
-  pub fault_is : (e : IdBytes) (to : Place) (at : Option ℕ) (fault : MoveFault) → IsMoveRefusal meta m e to at fault → IsRefusal (move_refusal meta m e to (containers_of m to) at) fault
+  pub fault_is : (e : IdBytes) (to : Place) (at : Option ℕ) (fault : MoveFault) → IsMoveRefusal meta m e to at fault
+      → IsRefusal (move_refusal meta m e to (containers_of m to) at) fault
   fault_is e to at fault (inl none) = inl none
   fault_is e to at fault (inr has) = inr (refusal_is e to at (Some fault) has)

@@ -2,7 +2,8 @@
 use Rattle.std.proofs.lemmas.Bool.Decides.{nat_tests}
 use Rattle.std.proofs.lemmas.Fmt.{decimal_injective, decimal_by_steps, length-decimal-le}
 use Rattle.std.proofs.lemmas.List.{append_cancel_left}
-use Rattle.std.proofs.Common.{◌≡◌, ℕ, ◌+◌, ◌%◌, ◌^◌, ◌<◌, ◌≤◌, zero, suc, Bool, true, false, not, List, [], ◌∷◌, ◌++◌, length, map, refl, sym, ap, ◌∙◌, ◌&&◌, arith, nat_le, nat_lt, nat_eq}
+use Rattle.std.proofs.Common.{◌≡◌, ℕ, ◌+◌, ◌%◌, ◌^◌, ◌<◌, ◌≤◌, zero, suc, Bool, true, false, not, List, [], ◌∷◌, ◌++◌, length, map, refl, sym, ap}
+use Rattle.std.proofs.Common.{◌∙◌, ◌&&◌, arith, nat_le, nat_lt, nat_eq}
 use Rattle.std.specs.Prelude.{Option, None, Some, is_some, if◌then◌else◌}
 use Rattle.std.specs.List.{list_all}
 use Rattle.std.specs.Fmt.{decimal}
@@ -45,7 +46,8 @@ length-both (x ∷ xs) ys = ap suc (length-both xs ys) ∙ turned (length xs) (l
     turned m n = omega arith
 
 digit_of_id : (n : ℕ) → n < 10 → is_id_byte (48 + n) ≡ true
-digit_of_id n h = and_both ((nat_le 33 (48 + n) && nat_le (48 + n) 126) && not (nat_eq (48 + n) 34)) _ (and_both (nat_le 33 (48 + n) && nat_le (48 + n) 126) _ (and_both (nat_le 33 (48 + n)) _ (low n) (high n h)) (no_quote n)) (no_slash n h)
+digit_of_id n h = and_both ((nat_le 33 (48 + n) && nat_le (48 + n) 126) && not (nat_eq (48 + n) 34)) _
+    (and_both (nat_le 33 (48 + n) && nat_le (48 + n) 126) _ (and_both (nat_le 33 (48 + n)) _ (low n) (high n h)) (no_quote n)) (no_slash n h)
   where
     low : (n : ℕ) → nat_le 33 (48 + n) ≡ true
     low n = grind (arith, nat_tests)
@@ -63,17 +65,26 @@ digits_of_id : (n : ℕ) → n < 2 ^ 64 → list_all is_id_byte (decimal n) ≡ 
 digits_of_id n h =
     decimal_by_steps (λ n ds. list_all is_id_byte ds ≡ true)
     (λ n small. and_both (is_id_byte (48 + n)) true (digit_of_id n small) refl)
-    (λ n ds large all. list_all-append is_id_byte ds ((48 + n % 10) ∷ []) all (and_both (is_id_byte (48 + n % 10)) true (digit_of_id (n % 10) (omega arith)) refl))
+    (λ n ds large all. list_all-append is_id_byte ds ((48 + n % 10) ∷ []) all
+    (and_both (is_id_byte (48 + n % 10)) true (digit_of_id (n % 10) (omega arith)) refl))
     n h
 
 pub numbered_is_id : (ws k : ℕ) → ws < 2 ^ 32 → k < 2 ^ 64 → is_id (numbered ws k) ≡ true
 unfolding numbered
 numbered_is_id ws k small_ws small_k =
     let tail = decimal ws ++ 110 ∷ decimal k in
-    let short : length tail ≤ 41 = omega (arith, length-both (decimal ws) (110 ∷ decimal k), length-decimal-le 20 ws (omega arith) (omega arith) (omega arith), length-decimal-le 20 k (omega arith) (omega arith) small_k) in
-    let bytes : list_all is_id_byte tail ≡ true = list_all-append is_id_byte (decimal ws) (110 ∷ decimal k) (digits_of_id ws (omega arith)) (digits_of_id k small_k) in
+    let short : length tail ≤ 41 =
+    omega (
+      arith,
+      length-both (decimal ws) (110 ∷ decimal k),
+      length-decimal-le 20 ws (omega arith) (omega arith) (omega arith),
+      length-decimal-le 20 k (omega arith) (omega arith) small_k,
+    ) in
+    let bytes : list_all is_id_byte tail ≡ true =
+    list_all-append is_id_byte (decimal ws) (110 ∷ decimal k) (digits_of_id ws (omega arith)) (digits_of_id k small_k) in
     and_both ((nat_le 1 (suc (length tail)) && nat_le (suc (length tail)) 128) && list_all is_id_byte tail) true
-    (and_both (nat_le 1 (suc (length tail)) && nat_le (suc (length tail)) 128) _ (and_both (nat_le 1 (suc (length tail))) _ (some (length tail)) (few (length tail) short)) bytes) refl
+    (and_both (nat_le 1 (suc (length tail)) && nat_le (suc (length tail)) 128) _
+    (and_both (nat_le 1 (suc (length tail))) _ (some (length tail)) (few (length tail) short)) bytes) refl
   where
     some : (n : ℕ) → nat_le 1 (suc n) ≡ true
     some n = grind (arith, nat_tests)
@@ -123,21 +134,27 @@ counted e None h = cc
 counted e (Some v) h = refl
 
 names_apart : (ws i k : ℕ) → i < 2 ^ 64 → k < 2 ^ 64 → k < i → eq_by_cmp id_cmp (numbered ws i) (numbered ws k) ≡ false
-names_apart ws i k small_i small_k less = not_so _ (λ tie. let same : i ≡ k = numbered_apart ws i k small_i small_k (same_key id_order (numbered ws i) (numbered ws k) tie) in omega (arith, same))
+names_apart ws i k small_i small_k less =
+    not_so _ (λ tie. let same : i ≡ k = numbered_apart ws i k small_i small_k (same_key id_order (numbered ws i) (numbered ws k) tie)
+    in omega (arith, same))
 
 -- as many ids that are there are as many entries
-many_there : (ws n k : ℕ) (kind : FinMap id_cmp ℕ) → k + n < 2 ^ 64 → ((i : ℕ) → k ≤ i → i ≤ k + n → is_some (get kind (numbered ws i)) ≡ true) → n + 1 ≤ count (λ _. true) kind
+many_there : (ws n k : ℕ) (kind : FinMap id_cmp ℕ) → k + n < 2 ^ 64 → ((i : ℕ) → k ≤ i → i ≤ k + n → is_some (get kind (numbered ws i)) ≡ true)
+    → n + 1 ≤ count (λ _. true) kind
 many_there ws zero k kind small there =
-    let sum : count (λ _. true) (set kind (numbered ws k) None) + counts (λ _. true) (numbered ws k) (get kind (numbered ws k)) ≡ count (λ _. true) kind + 0 = count-set id_order (λ _. true) kind (numbered ws k) None in
+    let sum : count (λ _. true) (set kind (numbered ws k) None) + counts (λ _. true) (numbered ws k) (get kind (numbered ws k)) ≡ count
+    (λ _. true) kind + 0 = count-set id_order (λ _. true) kind (numbered ws k) None in
     let one = counted (numbered ws k) (get kind (numbered ws k)) (there k (omega arith) (omega arith)) in
     omega (arith, sum, one)
 many_there ws (suc n) k kind small there =
     let left = set kind (numbered ws k) None in
-    let sum : count (λ _. true) left + counts (λ _. true) (numbered ws k) (get kind (numbered ws k)) ≡ count (λ _. true) kind + 0 = count-set id_order (λ _. true) kind (numbered ws k) None in
+    let sum : count (λ _. true) left + counts (λ _. true) (numbered ws k) (get kind (numbered ws k)) ≡ count (λ _. true) kind + 0 =
+    count-set id_order (λ _. true) kind (numbered ws k) None in
     let one = counted (numbered ws k) (get kind (numbered ws k)) (there k (omega arith) (omega arith)) in
     let rest : n + 1 ≤ count (λ _. true) left =
     many_there ws n (k + 1) left (omega arith) (λ i low high.
-    ap is_some (get-set_other id_order kind (numbered ws k) None (numbered ws i) (names_apart ws i k (omega arith) (omega arith) (omega arith))) ∙ there i (omega arith) (omega arith)) in
+    ap is_some (get-set_other id_order kind (numbered ws k) None (numbered ws i) (names_apart ws i k (omega arith) (omega arith) (omega arith)))
+    ∙ there i (omega arith) (omega arith)) in
     omega (arith, sum, one, rest)
 
 all_counted : {A : Type 0} (xs : List A) → tally (λ _. true) xs ≡ length xs

@@ -42,7 +42,9 @@ among features (n ∷ ns) q f h =
       | false ↦ λ later. or_more (nat_eq f n) _ (among features ns q f later)
     ] h
 
-held_by : (features : List Feature) (o : Option Class) (q : IdBytes) (f : ℕ) → first_named features (option_map_or (λ class. class.features) o []) q ≡ Some f → option_map_or (λ class. list_any (nat_eq f) class.features) o false ≡ true
+held_by : (features : List Feature) (o : Option Class) (q : IdBytes) (f : ℕ)
+    → first_named features (option_map_or (λ class. class.features) o []) q ≡ Some f
+    → option_map_or (λ class. list_any (nat_eq f) class.features) o false ≡ true
 held_by features None q f h = cc
 held_by features (Some class) q f h = among features class.features q f h
 

@@ -31,7 +31,8 @@ same_recorded : (r s : Recorded) → ◌≡◌ {A = Result Recorded EditFault} (
 same_recorded r s h = cc
 
 module _ (meta : Meta) (sound : Sound meta) (m : State) (good : Good meta m) (ws : ℕ) (edit : Edit) (r : Recorded) where
-  leads_by : (answer : Result Effect EditFault) → effect_of (value_of meta) meta m ws edit ≡ answer → recording_of meta m answer ≡ Ok r → LeadsOn meta m ws edit r
+  leads_by : (answer : Result Effect EditFault) → effect_of (value_of meta) meta m ws edit ≡ answer → recording_of meta m answer ≡ Ok r
+      → LeadsOn meta m ws edit r
   leads_by (Err fault) is h = cc
   leads_by (Ok effect) is h =
       let kind = operation_kind effect in
@@ -41,7 +42,8 @@ module _ (meta : Meta) (sound : Sound meta) (m : State) (good : Good meta m) (ws
       record {
         effect = effect;
         is = is;
-        run = ap (fold meta m) (ap steps_in (sym operation) ∙ steps_in-operation kind ss) ∙ edits_meet meta sound m good (value_of meta) (read_fits meta) ws edit effect is;
+        run = ap (fold meta m) (ap steps_in (sym operation) ∙ steps_in-operation kind ss)
+            ∙ edits_meet meta sound m good (value_of meta) (read_fits meta) ws edit effect is;
         idle = (
           λ none. idle.0 (none_made kind ss (operation ∙ none)),
           λ same. sym operation ∙ ap (operation_of kind) (idle.1 same),
@@ -54,7 +56,8 @@ unfolding recorded_of
 recording_leads meta sound m good ws edit r h = leads_by meta sound m good ws edit r (effect_of (value_of meta) meta m ws edit) refl h
 
 -- so an answer that is what is recorded leaves a good model
-pub keeps_good : (meta : Meta) → Sound meta → (m : State) → Good meta m → (ws : ℕ) (edit : Edit) (answer : Result Recorded EditFault) → Answers answer (recorded meta m ws edit) → IfOk answer (KeepsGood meta m)
+pub keeps_good : (meta : Meta) → Sound meta → (m : State) → Good meta m → (ws : ℕ) (edit : Edit) (answer : Result Recorded EditFault)
+    → Answers answer (recorded meta m ws edit) → IfOk answer (KeepsGood meta m)
 keeps_good meta sound m good ws edit (Ok r) is =
     let leads = recording_leads meta sound m good ws edit r is in
     record { left = after meta m leads.effect; run = leads.run; good = leads.good; paired = leads.good.rows.mirrored }

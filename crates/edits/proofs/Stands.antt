@@ -17,7 +17,9 @@ use Rattle.edits.proofs.Taken.{allowed}
 
 stands : (meta : Meta) → Sound meta → (m : State) → Good meta m → (effect : Effect) → Allowed meta m effect → StandsAsAsked meta m (after meta m effect) effect
 stands meta sound m good (Creates e class place) may = create_stands meta sound m good e class place may
-stands meta sound m good (Moves e place at) may = moved_stands_there meta sound m good e place at may.live may.is (containers_of m place) (is_chain meta m good place (parent_live meta m good place may.is)) may.taken
+stands meta sound m good (Moves e place at) may =
+    moved_stands_there meta sound m good e place at may.live may.is (containers_of m place)
+    (is_chain meta m good place (parent_live meta m good place may.is)) may.taken
 stands meta sound m good (Deletes e) may = delete_keeps meta m good e
 stands meta sound m good (Puts e f v) may = tt
 stands meta sound m good (Clears e f) may = tt

@@ -51,11 +51,14 @@ some_place x y e = cc
 pub deleted : (meta : Meta) (m : State) (e : IdBytes) → is_live m e ≡ true → delete_after meta m e ≡ m → ⊥
 deleted meta m e live same =
     let here : is_among (subtree_of meta m e) e ≡ true = or_left (text_eq e e) _ (text_equality.own e) in
-    let gone : get m.kind e ≡ None = ap (λ (x : State). get x.kind e) (sym same) ∙ get-without id_order (is_among (subtree_of meta m e)) m.kind e ∙ ap (λ b. cond b None (get m.kind e)) here in
+    let gone : get m.kind e ≡ None =
+    ap (λ (x : State). get x.kind e) (sym same) ∙ get-without id_order (is_among (subtree_of meta m e)) m.kind e
+    ∙ ap (λ b. cond b None (get m.kind e)) here in
     true_false (is_live m e) live (ap is_some gone)
 
 -- ---- move within a place: each element has the rank that it had
-no_reranks : (m : State) (xs : List Entry) (rs : List ℕ) (prank : Ranks) → ((x : IdBytes) → list_any (λ (y : Entry). text_eq x y.id) xs ≡ true → get prank x ≡ get m.prank x) → Stand m xs
+no_reranks : (m : State) (xs : List Entry) (rs : List ℕ) (prank : Ranks)
+    → ((x : IdBytes) → list_any (λ (y : Entry). text_eq x y.id) xs ≡ true → get prank x ≡ get m.prank x) → Stand m xs
     → ((y : IdBytes) → list_any (λ (x : Entry). text_eq y x.id) xs ≡ true → get (ranked_places xs rs prank) y ≡ get prank y) → rerank_places xs rs ≡ []
 no_reranks m [] rs prank old stand alike = refl
 no_reranks m (x ∷ xs) [] prank old stand alike = refl
@@ -66,8 +69,11 @@ no_reranks m (x ∷ xs) (r ∷ rs) prank old stand alike =
     let here : get (ranked_places xs rs next) x.id ≡ Some r = ranked_missing x.id xs rs next stand.2 ∙ get-set_same id_order prank x.id (Some r) in
     let rank : x.rank ≡ r = same_number x.rank r (sym held ∙ sym (alike x.id own) ∙ here) in
     let stays : next ≡ prank = set_here id_order prank x.id (Some r) (held ∙ ap Some rank) in
-    let rest : rerank_places xs rs ≡ [] = no_reranks m xs rs prank (λ y among. old y (or_right (text_eq y x.id) _ among)) stand.3 (λ y among. ap (λ w. get (ranked_places xs rs w) y) (sym stays) ∙ alike y (or_right (text_eq y x.id) _ among)) in
-    ap (λ t. cond {A = List Step} t (rerank_places xs rs) (RerankPlace x.id x.rank r ∷ rerank_places xs rs)) (ap (nat_eq x.rank) (sym rank) ∙ nat_equality.own x.rank) ∙ rest
+    let rest : rerank_places xs rs ≡ [] =
+    no_reranks m xs rs prank (λ y among. old y (or_right (text_eq y x.id) _ among)) stand.3
+    (λ y among. ap (λ w. get (ranked_places xs rs w) y) (sym stays) ∙ alike y (or_right (text_eq y x.id) _ among)) in
+    ap (λ t. cond {A = List Step} t (rerank_places xs rs) (RerankPlace x.id x.rank r ∷ rerank_places xs rs))
+    (ap (nat_eq x.rank) (sym rank) ∙ nat_equality.own x.rank) ∙ rest
 
 no_rerank : (e : IdBytes) (r s : ℕ) → r ≡ s → rerank_places (record { rank = r; id = e } ∷ []) (s ∷ []) ≡ []
 no_rerank e r s is = ap (λ t. cond {A = List Step} t [] (RerankPlace e r s ∷ [])) (ap (nat_eq r) (sym is) ∙ nat_equality.own r)
@@ -83,12 +89,16 @@ module _ (meta : Meta) (sound : Sound meta) (m : State) (good : Good meta m) (e 
   next = ranked_places others (spot others k).ranks m.prank
 
   moved_still : ◌≡◌ {A = State} (record m { prank = set next e (spot others k).rank }) m
-      → rerank_places others (spot others k).ranks ++ rerank_places (record { rank = rank_at m.prank e; id = e } ∷ []) (unwrap_or (spot others k).rank 0 ∷ []) ≡ []
+      → rerank_places others (spot others k).ranks
+      ++ rerank_places (record { rank = rank_at m.prank e; id = e } ∷ []) (unwrap_or (spot others k).rank 0 ∷ []) ≡ []
   moved_still whole =
       let same : set next e (spot others k).rank ≡ m.prank = ap (λ (x : State). x.prank) whole in
       let mine : get m.prank e ≡ (spot others k).rank = ap (λ w. get w e) (sym same) ∙ get-set_same id_order next e (spot others k).rank in
       let apart : (y : IdBytes) → list_any (λ (x : Entry). text_eq y x.id) others ≡ true → text_eq e y ≡ false = λ y among.
-      not_so (text_eq e y) (λ is. true_false (list_any (λ (x : Entry). text_eq e x.id) others) (ap (λ (z : IdBytes). list_any (λ (x : Entry). text_eq z x.id) others) (text_equality.exact e y is) ∙ among) (none_without e (children m.place m.prank p))) in
+      not_so (text_eq e y) (λ is.
+      true_false (list_any (λ (x : Entry). text_eq e x.id) others)
+      (ap (λ (z : IdBytes). list_any (λ (x : Entry). text_eq z x.id) others) (text_equality.exact e y is) ∙ among)
+      (none_without e (children m.place m.prank p))) in
       both_none (rerank_places others (spot others k).ranks) _
       (no_reranks m others (spot others k).ranks m.prank (λ _ _. refl) (others_stand meta sound m good e p k may)
       (λ y among. sym (get-set_other id_order next e (spot others k).rank y (names_differ e y (apart y among))) ∙ ap (λ w. get w y) same))
@@ -97,13 +107,15 @@ module _ (meta : Meta) (sound : Sound meta) (m : State) (good : Good meta m) (e 
   pub within_still : move_within_after m e p k ≡ m → move_within_made m e p k ≡ []
   within_still same =
       elim (stands_at e k (children m.place m.prank p)) as (λ t. cond t m (record m { prank = set next e (spot others k).rank }) ≡ m
-      → cond t [] (rerank_places others (spot others k).ranks ++ rerank_places (record { rank = rank_at m.prank e; id = e } ∷ []) (unwrap_or (spot others k).rank 0 ∷ [])) ≡ []) [
+      → cond t [] (rerank_places others (spot others k).ranks
+      ++ rerank_places (record { rank = rank_at m.prank e; id = e } ∷ []) (unwrap_or (spot others k).rank 0 ∷ [])) ≡ []) [
         | true ↦ λ _. refl
         | false ↦ moved_still
       ] same
 
 -- ---- move
-module _ (meta : Meta) (sound : Sound meta) (m : State) (good : Good meta m) (e : IdBytes) (to : Place) (at : Option ℕ) (up down : List IdBytes) (may : MayMove meta m e to at) where
+module _ (meta : Meta) (sound : Sound meta) (m : State) (good : Good meta m) (e : IdBytes) (to : Place) (at : Option ℕ) (up down : List IdBytes)
+    (may : MayMove meta m e to at) where
   abbrev xs : List Entry
   xs = children m.place m.prank to
 
@@ -120,7 +132,8 @@ module _ (meta : Meta) (sound : Sound meta) (m : State) (good : Good meta m) (e 
   not_moved : place_eq (place_of m e) to ≡ false → move_to_after m e to outer ≡ m → ⊥
   not_moved differ same =
       let there : Some (place_of m e) ≡ Some to = sym stands ∙ ap (λ (x : State). get x.place e) (sym same) ∙ get-set_same id_order m.place e (Some to) in
-      true_false (place_eq (place_of m e) to) (ap (place_eq (place_of m e)) (sym (some_place (place_of m e) to there)) ∙ place_equality.own (place_of m e)) differ
+      true_false (place_eq (place_of m e) to)
+      (ap (place_eq (place_of m e)) (sym (some_place (place_of m e) to there)) ∙ place_equality.own (place_of m e)) differ
 
   pub move_still : move_after m e to at ≡ m → move_made m e to at up down ≡ []
   move_still =

@@ -25,7 +25,10 @@ use Rattle.edit_laws.specs.References.{holds_one}
 use Rattle.edit_laws.specs.Refusals.{set_ref_refusal, link_index, link_refusal, unlink_refusal, reorder_refusal}
 use Rattle.edit_laws.specs.Attributes.{taken}
 use Rattle.edits.specs.FreshIds.{id_or_fresh}
-use Rattle.edits.specs.Edits.{Reading, Effect, Creates, Moves, Deletes, Puts, Clears, Inserts, Removes, Shifts, Refers, Forgets, Links, Unlinks, Reorders, class_at, feature_at, put_effect, unless_refused, target_in, refer_effect, set_effect, unset_effect, insert_effect, add_effect, remove_effect, shift_effect, is_listed, link_effect, unlink_effect, reorder_effect, of_feature, effect_of, made, after}
+use Rattle.edits.specs.Edits.{Reading, Effect, Creates, Moves, Deletes, Puts, Clears, Inserts, Removes, Shifts, Refers, Forgets, Links, Unlinks}
+use Rattle.edits.specs.Edits.{Reorders, class_at, feature_at, put_effect, unless_refused, target_in, refer_effect, set_effect, unset_effect}
+use Rattle.edits.specs.Edits.{insert_effect, add_effect, remove_effect, shift_effect, is_listed, link_effect, unlink_effect, reorder_effect}
+use Rattle.edits.specs.Edits.{of_feature, effect_of, made, after}
 use Rattle.containment.proofs.DeleteLaws.{delete_leads}
 use Rattle.edits.proofs.Allowed.{Allowed, passed, missed, allowed_as}
 use Rattle.edits.proofs.Names.{feature_held}
@@ -50,13 +53,15 @@ record OfFeature (meta : Meta) (r : Result ℕ EditFault) (effect : ℕ → Kind
   pub named : r ≡ Ok feature
   pub comes : effect feature (kind_of meta feature) ≡ Ok x
 
-with_feature : (meta : Meta) (r : Result ℕ EditFault) (effect : ℕ → Kind → Result Effect EditFault) (x : Effect) → of_feature meta r effect ≡ Ok x → OfFeature meta r effect x
+with_feature : (meta : Meta) (r : Result ℕ EditFault) (effect : ℕ → Kind → Result Effect EditFault) (x : Effect) → of_feature meta r effect ≡ Ok x
+    → OfFeature meta r effect x
 with_feature meta (Err e) effect x h = cc
 with_feature meta (Ok f) effect x h = record { feature = f; named = refl; comes = h }
 
 -- ---- the rows of attributes
 module _ (meta : Meta) (m : State) (e : IdBytes) (f : ℕ) (has : class_has meta (get m.kind e) f ≡ true) (effect : Effect) where
-  put_allowed : (o : Option Value) → is_attr (kind_of meta f) ≡ true → ((v : Value) → o ≡ Some v → attr_fits meta (kind_of meta f) v ≡ true) → put_effect meta e f o ≡ Ok effect → Allowed meta m effect
+  put_allowed : (o : Option Value) → is_attr (kind_of meta f) ≡ true → ((v : Value) → o ≡ Some v → attr_fits meta (kind_of meta f) v ≡ true)
+      → put_effect meta e f o ≡ Ok effect → Allowed meta m effect
   put_allowed None is fit h = cc
   put_allowed (Some v) is fit h = allowed_as meta m (Puts e f (taken meta f v)) effect h ((has, is), taken_fits meta f v (fit v refl), taken_differs meta f v)
 
@@ -67,8 +72,10 @@ module _ (meta : Meta) (m : State) (e : IdBytes) (f : ℕ) (has : class_has meta
       let open_ = not_refused (set_ref_refusal meta m e f b) (Refers e f b) effect live.1 in
       allowed_as meta m (Refers e f b) effect open_.1 (may_set meta m e f b one open_.0)
 
-  set_allowed : (reading : Reading) → IsTyped meta reading → (text : List ℕ) (k : Kind) → kind_of meta f ≡ k → set_effect reading meta m e f k text ≡ Ok effect → Allowed meta m effect
-  set_allowed reading typed text (Attr scalar default) is h = put_allowed (reading scalar text) (ap is_attr is) (λ v read. ap (λ k. attr_fits meta k v) is ∙ typed scalar text v read) h
+  set_allowed : (reading : Reading) → IsTyped meta reading → (text : List ℕ) (k : Kind) → kind_of meta f ≡ k
+      → set_effect reading meta m e f k text ≡ Ok effect → Allowed meta m effect
+  set_allowed reading typed text (Attr scalar default) is h =
+      put_allowed (reading scalar text) (ap is_attr is) (λ v read. ap (λ k. attr_fits meta k v) is ∙ typed scalar text v read) h
   set_allowed reading typed text (Bounded target opposite) is h =
       let one = passed (holds_one meta f) _ _ effect h in
       refer_allowed one.0 (target_in (reading types.Text text)) one.1
@@ -81,7 +88,8 @@ module _ (meta : Meta) (m : State) (e : IdBytes) (f : ℕ) (has : class_has meta
   unset_allowed (Free target opposite) is h = allowed_as meta m (Forgets e f) effect h tt
   unset_allowed k is h = cc
 
-  insert_allowed : (scalar : Scalar) (unique : Bool) → kind_of meta f ≡ AttrMany scalar unique → (k : ℕ) → nat_le k (length (values_at m e f)) ≡ true → (o : Option Value) → ((v : Value) → o ≡ Some v → fits meta scalar v ≡ true)
+  insert_allowed : (scalar : Scalar) (unique : Bool) → kind_of meta f ≡ AttrMany scalar unique → (k : ℕ) → nat_le k (length (values_at m e f)) ≡ true
+      → (o : Option Value) → ((v : Value) → o ≡ Some v → fits meta scalar v ≡ true)
       → insert_effect e f unique (upper_of meta f) (values_at m e f) k o ≡ Ok effect → Allowed meta m effect
   insert_allowed scalar unique is k within None fit h = cc
   insert_allowed scalar unique is k within (Some v) fit h =
@@ -98,7 +106,8 @@ module _ (meta : Meta) (m : State) (e : IdBytes) (f : ℕ) (has : class_has meta
         few = few.0;
       })
 
-  add_allowed : (reading : Reading) → IsTyped meta reading → (at : Option ℕ) (text : List ℕ) (k : Kind) → kind_of meta f ≡ k → add_effect reading meta m e f k at text ≡ Ok effect → Allowed meta m effect
+  add_allowed : (reading : Reading) → IsTyped meta reading → (at : Option ℕ) (text : List ℕ) (k : Kind) → kind_of meta f ≡ k
+      → add_effect reading meta m e f k at text ≡ Ok effect → Allowed meta m effect
   add_allowed reading typed at text (AttrMany scalar unique) is h =
       let k = unwrap_or at (length (values_at m e f)) in
       let within = passed (nat_le k (length (values_at m e f))) _ _ effect h in
@@ -140,9 +149,11 @@ module _ (meta : Meta) (m : State) (e : IdBytes) (f : ℕ) (has : class_has meta
       allowed_as meta m (Reorders e f b i) effect open_.1 (may_reorder m e f b i open_.0, reorder_within m e f b i open_.0)
 
 -- the effect of an edit that is not refused is possible
-pub allowed : (meta : Meta) (m : State) → Good meta m → (reading : Reading) → IsTyped meta reading → (ws : ℕ) (edit : Edit) (effect : Effect) → effect_of reading meta m ws edit ≡ Ok effect → Allowed meta m effect
+pub allowed : (meta : Meta) (m : State) → Good meta m → (reading : Reading) → IsTyped meta reading → (ws : ℕ) (edit : Edit) (effect : Effect)
+    → effect_of reading meta m ws edit ≡ Ok effect → Allowed meta m effect
 unfolding effect_of
-allowed meta m good reading typed ws (Create class destination id) effect h = create_allowed meta m good (class_named meta class) destination (id_or_fresh m ws id) effect h
+allowed meta m good reading typed ws (Create class destination id) effect h =
+    create_allowed meta m good (class_named meta class) destination (id_or_fresh m ws id) effect h
 allowed meta m good reading typed ws (Delete e) effect h = delete_allowed meta m e effect h
 allowed meta m good reading typed ws (Move e destination index) effect h = move_allowed meta m e destination index effect h
 allowed meta m good reading typed ws (Set e name value) effect h =
@@ -171,7 +182,8 @@ allowed meta m good reading typed ws (Reorder e name target index) effect h =
     reorder_allowed meta m e w.feature (feature_held meta m e name w.feature w.named) effect target index (kind_of meta w.feature) w.comes
 
 -- ---- the steps
-pub made_leads : (meta : Meta) → Sound meta → (m : State) → Good meta m → (effect : Effect) → Allowed meta m effect → fold meta m (made meta m effect) ≡ Some (after meta m effect)
+pub made_leads : (meta : Meta) → Sound meta → (m : State) → Good meta m → (effect : Effect) → Allowed meta m effect
+    → fold meta m (made meta m effect) ≡ Some (after meta m effect)
 made_leads meta sound m good (Creates e class place) may = create_meets meta sound m good e class place may
 made_leads meta sound m good (Moves e place at) may = move_meets meta sound m good e place at may
 made_leads meta sound m good (Deletes e) may = delete_leads meta sound m good e may

@@ -72,14 +72,16 @@ still meta sound m good (Moves e place at) may same = move_still meta sound m go
 still meta sound m good (Deletes e) may same = absurd (deleted meta m e may same)
 still meta sound m good (Puts e f v) may same =
     let here : get m.attr (e, f) ≡ single v = ap (λ (x : State). get x.attr (e, f)) (sym same) ∙ get-set_same attr_order m.attr (e, f) (single v) in
-    let equal : option_eq value_eq (single_value (get m.attr (e, f))) v ≡ true = ap (λ o. option_eq value_eq (single_value o) v) here ∙ ap (λ o. option_eq value_eq o v) (held_single v) ∙ value_test.own v in
+    let equal : option_eq value_eq (single_value (get m.attr (e, f))) v ≡ true =
+    ap (λ o. option_eq value_eq (single_value o) v) here ∙ ap (λ o. option_eq value_eq o v) (held_single v) ∙ value_test.own v in
     ap (λ b. cond {A = List Step} b [] (Put e f (single_value (get m.attr (e, f))) v ∷ [])) equal
 still meta sound m good (Clears e f) may same = ap (dels e f 0) (sym (same_values m e f [] same))
 still meta sound m good (Inserts e f k v) may same = absurd (longer (values_at m e f) k v may.within (same_values m e f (insert (values_at m e f) k v) same))
 still meta sound m good (Removes e f k) may same = absurd (shorter (values_at m e f) k may.1 (same_values m e f (remove (values_at m e f) k) same))
 still meta sound m good (Shifts e f from to) may same =
     let vs = values_at m e f in
-    let equal : list_eq value_eq (shifted vs from to) vs ≡ true = ap (λ ws. list_eq value_eq ws vs) (same_values m e f (shifted vs from to) same) ∙ values_test.own vs in
+    let equal : list_eq value_eq (shifted vs from to) vs ≡ true =
+    ap (λ ws. list_eq value_eq ws vs) (same_values m e f (shifted vs from to) same) ∙ values_test.own vs in
     ap (λ b. cond {A = List Step} b [] (Shift e f from to ∷ [])) equal
 still meta sound m good (Refers a f b) may same = set_ref_still meta sound m a f b (same_rows m (set_ref_after meta a f b m.row) same)
 still meta sound m good (Forgets a f) may same = unset_still meta sound m good a f (same_rows m (unset_after meta a f m.row) same)

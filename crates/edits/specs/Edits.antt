@@ -1,5 +1,6 @@
 -- Edits as they are given: the effect of each on a model, or why it is refused; the model after it; and what is recorded.
-use Rattle.std.specs.Prelude.{ℕ, Bool, not, ◌&&◌, nat_le, nat_lt, List, [], ◌∷◌, length, Option, None, Some, is_some, ok_or, unwrap_or, Result, Ok, Err, if◌then◌else◌}
+use Rattle.std.specs.Prelude.{ℕ, Bool, not, ◌&&◌, nat_le, nat_lt, List, [], ◌∷◌, length, Option, None, Some, is_some, ok_or, unwrap_or, Result, Ok}
+use Rattle.std.specs.Prelude.{Err, if◌then◌else◌}
 use Rattle.std.specs.List.{list_any}
 use Rattle.std.specs.FinMap.{get}
 use Rattle.finite_maps.specs.Maps.{is_below}
@@ -27,8 +28,10 @@ use Rattle.edits.specs.declared.edit.Destination.{Destination}
 use Rattle.edits.specs.declared.edit.Destination.TheVariants.{Root, Inside}
 use Rattle.edits.specs.declared.edit.Recorded.{Recorded}
 use Rattle.edit_laws.specs.declared.fault.EditFault.{EditFault}
-use Rattle.edit_laws.specs.declared.fault.EditFault.TheVariants.{NoElement, IdInUse, BadId, NoClass, Abstract, NoFeature, WrongKind, BadValue, Bound, AlreadyThere, NoEntry}
-use Rattle.edit_laws.specs.References.{holds_one, set_ref_after, set_ref_made, link_after, link_made, unlink_after, unlink_made, unset_after, unset_made, reorder_after, reorder_made}
+use Rattle.edit_laws.specs.declared.fault.EditFault.TheVariants.{NoElement, IdInUse, BadId, NoClass, Abstract, NoFeature, WrongKind, BadValue, Bound}
+use Rattle.edit_laws.specs.declared.fault.EditFault.TheVariants.{AlreadyThere, NoEntry}
+use Rattle.edit_laws.specs.References.{holds_one, set_ref_after, set_ref_made, link_after, link_made, unlink_after, unlink_made, unset_after}
+use Rattle.edit_laws.specs.References.{unset_made, reorder_after, reorder_made}
 use Rattle.edit_laws.specs.Refusals.{set_ref_refusal, link_index, link_refusal, unlink_refusal, reorder_refusal}
 use Rattle.edit_laws.specs.Places.{create_after, create_made}
 use Rattle.edit_laws.specs.Attributes.{taken, put_after, put_made}
@@ -157,7 +160,8 @@ refer_effect meta m a f (Some b) =
 -- names its target.
 abbrev pub set_effect : Reading → Meta → State → IdBytes → ℕ → Kind → List ℕ → Result Effect EditFault
 set_effect reading meta m e f (Attr scalar default) text = put_effect meta e f (reading scalar text)
-set_effect reading meta m e f (Bounded target opposite) text = if not (holds_one meta f) then Err WrongKind else refer_effect meta m e f (target_in (reading types.Text text))
+set_effect reading meta m e f (Bounded target opposite) text =
+    if not (holds_one meta f) then Err WrongKind else refer_effect meta m e f (target_in (reading types.Text text))
 set_effect reading meta m e f kind text = Err WrongKind
 
 -- the feature is an attribute or a plain reference
@@ -238,14 +242,19 @@ of_feature meta (Ok f) effect = effect f (kind_of meta f)
 unfoldable pub effect_of : Reading → Meta → State → ℕ → Edit → Result Effect EditFault
 effect_of reading meta m ws (Create class destination id) = create_effect meta m (class_named meta class) destination (id_or_fresh m ws id)
 effect_of reading meta m ws (Delete id) = delete_effect m id
-effect_of reading meta m ws (Set id feature value) = of_feature meta (feature_at meta (class_at m id) feature) (λ f kind. set_effect reading meta m id f kind value)
+effect_of reading meta m ws (Set id feature value) =
+    of_feature meta (feature_at meta (class_at m id) feature) (λ f kind. set_effect reading meta m id f kind value)
 effect_of reading meta m ws (Unset id feature) = of_feature meta (feature_at meta (class_at m id) feature) (λ f kind. unset_effect id f kind)
-effect_of reading meta m ws (Add id feature at value) = of_feature meta (feature_at meta (class_at m id) feature) (λ f kind. add_effect reading meta m id f kind at value)
+effect_of reading meta m ws (Add id feature at value) =
+    of_feature meta (feature_at meta (class_at m id) feature) (λ f kind. add_effect reading meta m id f kind at value)
 effect_of reading meta m ws (Remove id feature index) = of_feature meta (feature_at meta (class_at m id) feature) (λ f kind. remove_effect m id f kind index)
 effect_of reading meta m ws (Shift id feature from to) = of_feature meta (feature_at meta (class_at m id) feature) (λ f kind. shift_effect m id f kind from to)
-effect_of reading meta m ws (Link id feature target index) = of_feature meta (feature_at meta (class_at m id) feature) (λ f kind. link_effect meta m id f kind target index)
-effect_of reading meta m ws (Unlink id feature target) = of_feature meta (feature_at meta (class_at m id) feature) (λ f kind. unlink_effect meta m id f kind target)
-effect_of reading meta m ws (Reorder id feature target index) = of_feature meta (feature_at meta (class_at m id) feature) (λ f kind. reorder_effect meta m id f kind target index)
+effect_of reading meta m ws (Link id feature target index) =
+    of_feature meta (feature_at meta (class_at m id) feature) (λ f kind. link_effect meta m id f kind target index)
+effect_of reading meta m ws (Unlink id feature target) =
+    of_feature meta (feature_at meta (class_at m id) feature) (λ f kind. unlink_effect meta m id f kind target)
+effect_of reading meta m ws (Reorder id feature target index) =
+    of_feature meta (feature_at meta (class_at m id) feature) (λ f kind. reorder_effect meta m id f kind target index)
 effect_of reading meta m ws (Move id destination index) = move_effect meta m id destination index
 
 -- ---- the model after an effect, defined without steps

@@ -20,23 +20,27 @@ IsTyped meta reading = (scalar : Scalar) (text : List ℕ) (v : Value) → readi
 
 -- an edit that is not refused leads to the model after it
 abbrev pub EditsMeet : Type 0
-EditsMeet = (meta : Meta) → Sound meta → (m : State) → Good meta m → (reading : Reading) → IsTyped meta reading → (ws : ℕ) (edit : Edit) (effect : Effect) → effect_of reading meta m ws edit ≡ Ok effect
+EditsMeet = (meta : Meta) → Sound meta → (m : State) → Good meta m → (reading : Reading) → IsTyped meta reading
+    → (ws : ℕ) (edit : Edit) (effect : Effect) → effect_of reading meta m ws edit ≡ Ok effect
     → fold meta m (made meta m effect) ≡ Some (after meta m effect)
 
 -- no step is made for it exactly where it changes nothing
 abbrev pub EditsIdle : Type 0
-EditsIdle = (meta : Meta) → Sound meta → (m : State) → Good meta m → (reading : Reading) → IsTyped meta reading → (ws : ℕ) (edit : Edit) (effect : Effect) → effect_of reading meta m ws edit ≡ Ok effect
+EditsIdle = (meta : Meta) → Sound meta → (m : State) → Good meta m → (reading : Reading) → IsTyped meta reading
+    → (ws : ℕ) (edit : Edit) (effect : Effect) → effect_of reading meta m ws edit ≡ Ok effect
     → (made meta m effect ≡ [] → after meta m effect ≡ m) × (after meta m effect ≡ m → made meta m effect ≡ [])
 
 -- The model after it is good. Among other things, each row of a reference and its mirror stand together, and no list is over its
 -- bound.
 abbrev pub EditsKeepGood : Type 0
-EditsKeepGood = (meta : Meta) → Sound meta → (m : State) → Good meta m → (reading : Reading) → IsTyped meta reading → (ws : ℕ) (edit : Edit) (effect : Effect) → effect_of reading meta m ws edit ≡ Ok effect
+EditsKeepGood = (meta : Meta) → Sound meta → (m : State) → Good meta m → (reading : Reading) → IsTyped meta reading
+    → (ws : ℕ) (edit : Edit) (effect : Effect) → effect_of reading meta m ws edit ≡ Ok effect
     → Good meta (after meta m effect)
 
 -- an entry stands in it where the edit asked for it
 abbrev pub EditsStand : Type 0
-EditsStand = (meta : Meta) → Sound meta → (m : State) → Good meta m → (reading : Reading) → IsTyped meta reading → (ws : ℕ) (edit : Edit) (effect : Effect) → effect_of reading meta m ws edit ≡ Ok effect
+EditsStand = (meta : Meta) → Sound meta → (m : State) → Good meta m → (reading : Reading) → IsTyped meta reading
+    → (ws : ℕ) (edit : Edit) (effect : Effect) → effect_of reading meta m ws edit ≡ Ok effect
     → StandsAsAsked meta m (after meta m effect) effect
 
 -- the first number whose id is not live gives the fresh id

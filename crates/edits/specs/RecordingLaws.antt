@@ -25,7 +25,8 @@ pub record LeadsOn (meta : Meta) (m : State) (ws : ℕ) (edit : Edit) (r : Recor
 
 -- so does what is recorded of an edit that is not refused
 abbrev pub RecordingLeads : Type 0
-RecordingLeads = (meta : Meta) → Sound meta → (m : State) → Good meta m → (ws : ℕ) (edit : Edit) (r : Recorded) → recorded meta m ws edit ≡ Ok r → LeadsOn meta m ws edit r
+RecordingLeads = (meta : Meta) → Sound meta → (m : State) → Good meta m → (ws : ℕ) (edit : Edit) (r : Recorded) → recorded meta m ws edit ≡ Ok r
+    → LeadsOn meta m ws edit r
 
 -- each row of a reference that has an opposite stands exactly where its mirror does
 abbrev pub Paired : Meta → State → Type 0

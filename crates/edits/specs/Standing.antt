@@ -18,9 +18,15 @@ use Rattle.edits.specs.Edits.{Effect, Creates, Moves, Deletes, Refers, Links, Re
 -- of attributes, of links that are taken away, nor of a target that is set where it stands already.
 abbrev pub StandsAsAsked : Meta → State → State → Effect → Type 0
 StandsAsAsked meta before after (Creates e class place) = Placed before after e place (length (children before.place before.prank place))
-StandsAsAsked meta before after (Moves e place at) = Placed before after e place (unwrap_or at (length (without_entry e (children before.place before.prank place))))
+StandsAsAsked meta before after (Moves e place at) =
+    Placed before after e place (unwrap_or at (length (without_entry e (children before.place before.prank place))))
 StandsAsAsked meta before after (Deletes e) = Keeps before after e
-StandsAsAsked meta before after (Refers a f b) = get before.row (a, f, b) ≡ None → Joined meta (λ (k : RowKey). is_row_or_mirror (opposite_of meta f) a f k || is_displaced meta (opposite_of meta f) f b k) before.row after.row a f b 0
-StandsAsAsked meta before after (Links a f b k) = StandsAt (targets before.row a f) (targets after.row a f) b k × Joined meta (is_displaced meta (opposite_of meta f) f b) before.row after.row a f b k
-StandsAsAsked meta before after (Reorders a f b k) = StandsAt (targets before.row a f) (targets after.row a f) b k × ((x : IdBytes) (h : ℕ) → is_list a f x h ≡ false → targets after.row x h ≡ targets before.row x h)
+StandsAsAsked meta before after (Refers a f b) = get before.row (a, f, b) ≡ None
+    → Joined meta (λ (k : RowKey). is_row_or_mirror (opposite_of meta f) a f k || is_displaced meta (opposite_of meta f) f b k) before.row after.row a
+    f b 0
+StandsAsAsked meta before after (Links a f b k) =
+    StandsAt (targets before.row a f) (targets after.row a f) b k × Joined meta (is_displaced meta (opposite_of meta f) f b) before.row after.row a f b k
+StandsAsAsked meta before after (Reorders a f b k) =
+    StandsAt (targets before.row a f) (targets after.row a f) b k
+    × ((x : IdBytes) (h : ℕ) → is_list a f x h ≡ false → targets after.row x h ≡ targets before.row x h)
 StandsAsAsked meta before after effect = Unit {0}

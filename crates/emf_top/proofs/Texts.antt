@@ -9,16 +9,19 @@ use Rattle.repo_core.specs.declared.counting.Counts.{Counts}
 use Rattle.emf_top.specs.Tasks.{check_line, outcome_line}
 
 -- a word and a number five times, one pair after the other
-five : (w1 n1 w2 n2 w3 n3 w4 n4 w5 n5 last l0 l1 l2 l3 l4 l5 l6 : List ℕ) → l0 ≡ [] → l1 ≡ l0 ++ (w1 ++ n1) → l2 ≡ l1 ++ (w2 ++ n2) → l3 ≡ l2 ++ (w3 ++ n3) → l4 ≡ l3 ++ (w4 ++ n4) → l5 ≡ l4 ++ (w5 ++ n5)
+five : (w1 n1 w2 n2 w3 n3 w4 n4 w5 n5 last l0 l1 l2 l3 l4 l5 l6 : List ℕ) → l0 ≡ [] → l1 ≡ l0 ++ (w1 ++ n1) → l2 ≡ l1 ++ (w2 ++ n2)
+    → l3 ≡ l2 ++ (w3 ++ n3) → l4 ≡ l3 ++ (w4 ++ n4) → l5 ≡ l4 ++ (w5 ++ n5)
     → l6 ≡ l5 ++ last → l6 ≡ w1 ++ (n1 ++ (w2 ++ (n2 ++ (w3 ++ (n3 ++ (w4 ++ (n4 ++ (w5 ++ (n5 ++ last)))))))))
 five w1 n1 w2 n2 w3 n3 w4 n4 w5 n5 last l0 l1 l2 l3 l4 l5 l6 e0 e1 e2 e3 e4 e5 e6 = rw (e6, e5, e4, e3, e2, e1, e0) (simp append_assoc)
 
 -- the same four times
-four : (w1 n1 w2 n2 w3 n3 w4 n4 last l0 l1 l2 l3 l4 l5 : List ℕ) → l0 ≡ [] → l1 ≡ l0 ++ (w1 ++ n1) → l2 ≡ l1 ++ (w2 ++ n2) → l3 ≡ l2 ++ (w3 ++ n3) → l4 ≡ l3 ++ (w4 ++ n4)
+four : (w1 n1 w2 n2 w3 n3 w4 n4 last l0 l1 l2 l3 l4 l5 : List ℕ) → l0 ≡ [] → l1 ≡ l0 ++ (w1 ++ n1) → l2 ≡ l1 ++ (w2 ++ n2) → l3 ≡ l2 ++ (w3 ++ n3)
+    → l4 ≡ l3 ++ (w4 ++ n4)
     → l5 ≡ l4 ++ last → l5 ≡ w1 ++ (n1 ++ (w2 ++ (n2 ++ (w3 ++ (n3 ++ (w4 ++ (n4 ++ last)))))))
 four w1 n1 w2 n2 w3 n3 w4 n4 last l0 l1 l2 l3 l4 l5 e0 e1 e2 e3 e4 e5 = rw (e5, e4, e3, e2, e1, e0) (simp append_assoc)
 
-pub outcome_text : (s : State) (accepted refused versions elements : ℕ) → versions ≡ length s.history.versions → elements ≡ element_count s → (l0 l1 l2 l3 l4 l5 : List ℕ) → l0 ≡ []
+pub outcome_text : (s : State) (accepted refused versions elements : ℕ) → versions ≡ length s.history.versions → elements ≡ element_count s
+    → (l0 l1 l2 l3 l4 l5 : List ℕ) → l0 ≡ []
     → l1 ≡ l0 ++ (codes "accepted " ++ decimal accepted)
     → l2 ≡ l1 ++ (codes " refused " ++ decimal refused)
     → l3 ≡ l2 ++ (codes " versions " ++ decimal versions)
@@ -26,7 +29,8 @@ pub outcome_text : (s : State) (accepted refused versions elements : ℕ) → ve
     → l5 ≡ l4 ++ 10 ∷ [] → l5 ≡ outcome_line accepted refused s
 outcome_text s accepted refused versions elements versions_are elements_are l0 l1 l2 l3 l4 l5 e0 e1 e2 e3 e4 e5 =
     rw (← versions_are, ← elements_are)
-    (four (codes "accepted ") (decimal accepted) (codes " refused ") (decimal refused) (codes " versions ") (decimal versions) (codes " elements ") (decimal elements) (10 ∷ [])
+    (four (codes "accepted ") (decimal accepted) (codes " refused ") (decimal refused) (codes " versions ") (decimal versions) (codes " elements ")
+    (decimal elements) (10 ∷ [])
     l0 l1 l2 l3 l4 l5 e0 e1 e2 e3 e4 e5)
 
 pub check_text : (s : State) (counts : Counts) → AreCounts s counts → live_workspaces s < 2 ^ 32 → (l0 l1 l2 l3 l4 l5 l6 : List ℕ) → l0 ≡ []

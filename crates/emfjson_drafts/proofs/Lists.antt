@@ -1,5 +1,6 @@
 -- The next of a list, and what a list says at a place.
-use Rattle.std.proofs.Common.{◌≡◌, ℕ, zero, suc, ◌+◌, ◌<◌, ◌≤◌, List, [], ◌∷◌, ◌++◌, length, drop, get_or, slice_set, add-one, drop-cons, refl, sym, ap, ap₂, subst, ◌∙◌, arith}
+use Rattle.std.proofs.Common.{◌≡◌, ℕ, zero, suc, ◌+◌, ◌<◌, ◌≤◌, List, [], ◌∷◌, ◌++◌, length, drop, get_or, slice_set, add-one, drop-cons, refl, sym}
+use Rattle.std.proofs.Common.{ap, ap₂, subst, ◌∙◌, arith}
 
 -- what is left of a list is its item at the place, and what is left after it
 next : {X : Type 0} (xs : List X) (i : ℕ) (x : X) → i < length xs → x ≡ get_or xs i x → drop i xs ≡ x ∷ drop (i + 1) xs
@@ -18,7 +19,8 @@ pub none_left_of : {X : Type 0} (ys xs : List X) (i : ℕ) → ys ≡ xs → len
 none_left_of ys xs i same less = subst (λ zs. drop i zs ≡ []) same (none_left ys i less)
 
 -- ---- between others
-pub set_between : {A : Type 0} (before after : List A) (x y : A) (xs : List A) (i : ℕ) → xs ≡ before ++ x ∷ after → length before ≡ i → slice_set xs i y ≡ before ++ y ∷ after
+pub set_between : {A : Type 0} (before after : List A) (x y : A) (xs : List A) (i : ℕ) → xs ≡ before ++ x ∷ after → length before ≡ i
+    → slice_set xs i y ≡ before ++ y ∷ after
 set_between before after x y xs i is at = ap₂ (λ zs n. slice_set zs n y) is (sym at) ∙ go before
   where
     go : (before : List _) → slice_set (before ++ x ∷ after) (length before) y ≡ before ++ y ∷ after

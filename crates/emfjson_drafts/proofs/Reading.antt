@@ -1,7 +1,8 @@
 -- The fault of a part is the fault of the whole.
 use Rattle.std.proofs.Common.{◌≡◌, ap, subst}
 use Rattle.model_documents.specs.declared.fault.ModelFault.{ModelFault}
-use Rattle.model_documents.specs.declared.fault.ModelFault.TheVariants.{NotJson, NoClass, Abstract, NoFeature, BadValue, BadRef, DupId, BadId, Bound, WrongType, Memory}
+use Rattle.model_documents.specs.declared.fault.ModelFault.TheVariants.{NotJson, NoClass, Abstract, NoFeature, BadValue, BadRef, DupId, BadId, Bound}
+use Rattle.model_documents.specs.declared.fault.ModelFault.TheVariants.{WrongType, Memory}
 use Rattle.emfjson_drafts.specs.Answers.{IsFault}
 use Rattle.model_documents.specs.Reads.{Read, «then»}
 

@@ -34,38 +34,52 @@ fault_here : {A : Type 0} (default : Option ℕ) (r : Read A) → r ≡ Err (not
 fault_here None r h = h
 fault_here (Some c) r h = h
 
-pub walks_is : {T : Type 0} (old new : List Draft) (result : Result T ModelFault) (r s : Read (List Draft)) → Walks old new result r → r ≡ s → Walks old new result s
+pub walks_is : {T : Type 0} (old new : List Draft) (result : Result T ModelFault) (r s : Read (List Draft)) → Walks old new result r → r ≡ s
+    → Walks old new result s
 walks_is old new result r s h p = subst (Walks old new result) p h
 
 -- ---- one element
 module _ (meta : Meta) (ids : Ids) (parent : Option DocParent) (default : Option ℕ) where
-  pub class_fault : (d : Data) (ms : Members) (o : Option Data) (e : ModelFault) → d ≡ object ms → o ≡ get (codes "eClass") d → IsFault e (class_of meta default o) → IsFault e (element_rows meta ids parent default d)
+  pub class_fault : (d : Data) (ms : Members) (o : Option Data) (e : ModelFault) → d ≡ object ms → o ≡ get (codes "eClass") d
+      → IsFault e (class_of meta default o) → IsFault e (element_rows meta ids parent default d)
   unfolding element_rows
   class_fault d ms o e is at h =
-      let f : ℕ → Read (List Draft) = λ c. «then» (id_of ids (get (codes "_id") (object ms))) (λ id. own_rows parent id c (members_rows meta c (length ids) (ids ++ id ∷ []) no_part ms)) in
-      fault_is e _ _ (fault_then e (class_of meta default o) f h) (ap (λ o. «then» (class_of meta default o) f) (at ∙ ap (get (codes "eClass")) is) ∙ sym (ap (element_rows meta ids parent default) is))
+      let f : ℕ → Read (List Draft) =
+      λ c. «then» (id_of ids (get (codes "_id") (object ms)))
+      (λ id. own_rows parent id c (members_rows meta c (length ids) (ids ++ id ∷ []) no_part ms)) in
+      fault_is e _ _ (fault_then e (class_of meta default o) f h)
+      (ap (λ o. «then» (class_of meta default o) f) (at ∙ ap (get (codes "eClass")) is) ∙ sym (ap (element_rows meta ids parent default) is))
 
-  pub id_fault : (d : Data) (ms : Members) (o q : Option Data) (c : ℕ) (e : ModelFault) → d ≡ object ms → o ≡ get (codes "eClass") d → class_of meta default o ≡ Ok c → q ≡ get (codes "_id") d → IsFault e (id_of ids q)
+  pub id_fault : (d : Data) (ms : Members) (o q : Option Data) (c : ℕ) (e : ModelFault) → d ≡ object ms → o ≡ get (codes "eClass") d
+      → class_of meta default o ≡ Ok c → q ≡ get (codes "_id") d → IsFault e (id_of ids q)
       → IsFault e (element_rows meta ids parent default d)
   unfolding element_rows
   id_fault d ms o q c e is at class at' h =
       let g : Option IdBytes → Read (List Draft) = λ id. own_rows parent id c (members_rows meta c (length ids) (ids ++ id ∷ []) no_part ms) in
-      let f : ℕ → Read (List Draft) = λ c. «then» (id_of ids (get (codes "_id") (object ms))) (λ id. own_rows parent id c (members_rows meta c (length ids) (ids ++ id ∷ []) no_part ms)) in
-      let known : class_of meta default (get (codes "eClass") (object ms)) ≡ Ok c = ap (class_of meta default) (sym (at ∙ ap (get (codes "eClass")) is)) ∙ class in
+      let f : ℕ → Read (List Draft) =
+      λ c. «then» (id_of ids (get (codes "_id") (object ms)))
+      (λ id. own_rows parent id c (members_rows meta c (length ids) (ids ++ id ∷ []) no_part ms)) in
+      let known : class_of meta default (get (codes "eClass") (object ms)) ≡ Ok c =
+      ap (class_of meta default) (sym (at ∙ ap (get (codes "eClass")) is)) ∙ class in
       fault_is e _ _ (fault_then e (id_of ids q) g h)
       (ap (λ q. «then» (id_of ids q) g) (at' ∙ ap (get (codes "_id")) is) ∙ sym (ap (element_rows meta ids parent default) is ∙ ap (λ r. «then» r f) known))
 
-  pub object_is : (d : Data) (ms : Members) (o q : Option Data) (c : ℕ) (id : Option IdBytes) → d ≡ object ms → o ≡ get (codes "eClass") d → class_of meta default o ≡ Ok c → q ≡ get (codes "_id") d → id_of ids q ≡ Ok id
+  pub object_is : (d : Data) (ms : Members) (o q : Option Data) (c : ℕ) (id : Option IdBytes) → d ≡ object ms → o ≡ get (codes "eClass") d
+      → class_of meta default o ≡ Ok c → q ≡ get (codes "_id") d → id_of ids q ≡ Ok id
       → own_rows parent id c (members_rows meta c (length ids) (ids ++ id ∷ []) no_part ms) ≡ element_rows meta ids parent default d
   unfolding element_rows
   object_is d ms o q c id is at class at' read =
       let g : Option IdBytes → Read (List Draft) = λ id. own_rows parent id c (members_rows meta c (length ids) (ids ++ id ∷ []) no_part ms) in
-      let f : ℕ → Read (List Draft) = λ c. «then» (id_of ids (get (codes "_id") (object ms))) (λ id. own_rows parent id c (members_rows meta c (length ids) (ids ++ id ∷ []) no_part ms)) in
-      let known : class_of meta default (get (codes "eClass") (object ms)) ≡ Ok c = ap (class_of meta default) (sym (at ∙ ap (get (codes "eClass")) is)) ∙ class in
+      let f : ℕ → Read (List Draft) =
+      λ c. «then» (id_of ids (get (codes "_id") (object ms)))
+      (λ id. own_rows parent id c (members_rows meta c (length ids) (ids ++ id ∷ []) no_part ms)) in
+      let known : class_of meta default (get (codes "eClass") (object ms)) ≡ Ok c =
+      ap (class_of meta default) (sym (at ∙ ap (get (codes "eClass")) is)) ∙ class in
       let named : id_of ids (get (codes "_id") (object ms)) ≡ Ok id = ap (id_of ids) (sym (at' ∙ ap (get (codes "_id")) is)) ∙ read in
       sym (ap (element_rows meta ids parent default) is ∙ ap (λ r. «then» r f) known ∙ ap (λ r. «then» r g) named)
 
-  pub other_rows : (d e : Data) → d ≡ e → element_rows meta ids parent default e ≡ Err (not_object default) → IsFault (not_object default) (element_rows meta ids parent default d)
+  pub other_rows : (d e : Data) → d ≡ e → element_rows meta ids parent default e ≡ Err (not_object default)
+      → IsFault (not_object default) (element_rows meta ids parent default d)
   other_rows d e is other = fault_here default (element_rows meta ids parent default d) (ap (element_rows meta ids parent default) is ∙ other)
 
   pub null_rows : element_rows meta ids parent default null ≡ Err (not_object default)
@@ -97,7 +111,8 @@ module _ (meta : Meta) (ids : Ids) (parent : DocParent) (target : ℕ) where
   abbrev by_tests : Bool → Bool → Items → Read (List Draft)
   by_tests one within ds = unless (not one) WrongType (unless within Bound (items_rows meta ids (Some parent) (Some target) [] ds))
 
-  pub held_array : (d : Data) (ds : Items) (one within : Bool) → d ≡ array ds → is_one (upper_of meta parent.feature) ≡ one → is_within (length (list_of ds)) (upper_of meta parent.feature) ≡ within
+  pub held_array : (d : Data) (ds : Items) (one within : Bool) → d ≡ array ds → is_one (upper_of meta parent.feature) ≡ one
+      → is_within (length (list_of ds)) (upper_of meta parent.feature) ≡ within
       → held_rows meta ids parent target d ≡ unless (not one) WrongType (unless within Bound (items_rows meta ids (Some parent) (Some target) [] ds))
   unfolding held_rows
   held_array d ds one within is p q =
@@ -105,7 +120,8 @@ module _ (meta : Meta) (ids : Ids) (parent : DocParent) (target : ℕ) where
       ∙ ap (λ (b : Bool). by_tests b (is_within (length (list_of ds)) (upper_of meta parent.feature)) ds) p
       ∙ ap (λ (b : Bool). by_tests one b ds) q
 
-  pub held_object : (d : Data) (ms : Members) (within : Bool) → d ≡ object ms → is_within 1 (upper_of meta parent.feature) ≡ within → held_rows meta ids parent target d ≡ unless within Bound (element_rows meta ids (Some parent) (Some target) d)
+  pub held_object : (d : Data) (ms : Members) (within : Bool) → d ≡ object ms → is_within 1 (upper_of meta parent.feature) ≡ within
+      → held_rows meta ids parent target d ≡ unless within Bound (element_rows meta ids (Some parent) (Some target) d)
   unfolding held_rows element_rows
   held_object d ms within is p =
       ap (held_rows meta ids parent target) is
@@ -132,9 +148,11 @@ count_items (v ∷ vs) = ap (λ n. suc n) (count_items vs)
 -- ---- lists of elements
 module _ (meta : Meta) (first : List Draft) (parent : Option DocParent) (default : Option ℕ) where
   abbrev pub SoFar : List Draft → Items → Items → Type 0
-  SoFar now all rest = (done : List Draft) × (now ≡ first ++ done) × (items_rows meta (ids_of first) parent default [] all ≡ items_rows meta (ids_of first) parent default done rest)
+  SoFar now all rest = (done : List Draft) × (now ≡ first ++ done)
+      × (items_rows meta (ids_of first) parent default [] all ≡ items_rows meta (ids_of first) parent default done rest)
 
-  here : (now done : List Draft) (d : Data) → now ≡ first ++ done → element_rows meta (ids_of now) parent default d ≡ element_rows meta (ids_of first ++ ids_of done) parent default d
+  here : (now done : List Draft) (d : Data) → now ≡ first ++ done
+      → element_rows meta (ids_of now) parent default d ≡ element_rows meta (ids_of first ++ ids_of done) parent default d
   here now done d is = ap (λ ids. element_rows meta ids parent default d) (ap ids_of is ∙ ids_append first done)
 
   pub items_step : {T : Type 0} (now after : List Draft) (x : T) (all : Items) (d : Data) (ds : Items) → SoFar now all (item d ds)
@@ -150,9 +168,11 @@ module _ (meta : Meta) (first : List Draft) (parent : Option DocParent) (default
       → IsFault e (element_rows meta (ids_of now) parent default d) → IsFault e (items_rows meta (ids_of first) parent default [] all)
   unfolding items_rows
   items_fault now e all d ds so h =
-      fault_is e _ _ (fault_then e _ (λ more. items_rows meta (ids_of first) parent default (so.0 ++ more) ds) (fault_is e _ _ h (here now so.0 d so.1))) (sym so.2)
+      fault_is e _ _ (fault_then e _ (λ more. items_rows meta (ids_of first) parent default (so.0 ++ more) ds)
+      (fault_is e _ _ h (here now so.0 d so.1))) (sym so.2)
 
-  pub items_end : (now : List Draft) (all : Items) → SoFar now all no_items → (more : List Draft) × (items_rows meta (ids_of first) parent default [] all ≡ Ok more) × (now ≡ first ++ more)
+  pub items_end : (now : List Draft) (all : Items) → SoFar now all no_items
+      → (more : List Draft) × (items_rows meta (ids_of first) parent default [] all ≡ Ok more) × (now ≡ first ++ more)
   unfolding items_rows
   items_end now all so = (so.0, so.2, so.1)
 
@@ -166,8 +186,11 @@ module _ (meta : Meta) (c own : ℕ) (first : List Draft) where
   abbrev at_key : Ids → Name → Data → Read Part
   at_key ids k d = key_part meta (key_named meta c k) d (λ f target. held_rows meta ids (record { row = own; feature = f }) target d)
 
-  pub members_step : {T : Type 0} (now after : List Draft) (attrs attrs' : List DocAttr) (links links' : List Links) (x : T) (all : Members) (k : Name) (d : Data) (ms : Members) → PartSoFar now attrs links all (member k d ms)
-      → AppendsPart {T = T} attrs attrs' links links' now after (Ok x) (key_part meta (key_named meta c k) d (λ f target. held_rows meta (ids_of now) (record { row = own; feature = f }) target d)) → PartSoFar after attrs' links' all ms
+  pub members_step : {T : Type 0} (now after : List Draft) (attrs attrs' : List DocAttr) (links links' : List Links) (x : T) (all : Members)
+      (k : Name) (d : Data) (ms : Members) → PartSoFar now attrs links all (member k d ms)
+      → AppendsPart {T = T} attrs attrs' links links' now after (Ok x)
+      (key_part meta (key_named meta c k) d (λ f target. held_rows meta (ids_of now) (record { row = own; feature = f }) target d))
+      → PartSoFar after attrs' links' all ms
   unfolding members_rows
   members_step now after attrs attrs' links links' x all k d ms so holds =
       let ids : ids_of now ≡ ids_of first ++ ids_of so.0.rows = ap ids_of so.1 ∙ ids_append first so.0.rows in (
@@ -178,14 +201,18 @@ module _ (meta : Meta) (c own : ℕ) (first : List Draft) where
         so.4 ∙ ap (λ r. «then» r (λ more. members_rows meta c own (ids_of first) (joined so.0 more) ms)) (sym (ap (λ ids. at_key ids k d) ids) ∙ holds.1),
       )
 
-  pub members_fault : (now : List Draft) (attrs : List DocAttr) (links : List Links) (e : ModelFault) (all : Members) (k : Name) (d : Data) (ms : Members) → PartSoFar now attrs links all (member k d ms)
-      → IsFault e (key_part meta (key_named meta c k) d (λ f target. held_rows meta (ids_of now) (record { row = own; feature = f }) target d)) → IsFault e (members_rows meta c own (ids_of first) no_part all)
+  pub members_fault : (now : List Draft) (attrs : List DocAttr) (links : List Links) (e : ModelFault) (all : Members) (k : Name) (d : Data)
+      (ms : Members) → PartSoFar now attrs links all (member k d ms)
+      → IsFault e (key_part meta (key_named meta c k) d (λ f target. held_rows meta (ids_of now) (record { row = own; feature = f }) target d))
+      → IsFault e (members_rows meta c own (ids_of first) no_part all)
   unfolding members_rows
   members_fault now attrs links e all k d ms so h =
       let ids : ids_of now ≡ ids_of first ++ ids_of so.0.rows = ap ids_of so.1 ∙ ids_append first so.0.rows in
-      fault_is e _ _ (fault_then e _ (λ more. members_rows meta c own (ids_of first) (joined so.0 more) ms) (fault_is e _ _ h (ap (λ ids. at_key ids k d) ids))) (sym so.4)
+      fault_is e _ _ (fault_then e _ (λ more. members_rows meta c own (ids_of first) (joined so.0 more) ms)
+      (fault_is e _ _ h (ap (λ ids. at_key ids k d) ids))) (sym so.4)
 
   pub members_end : (now : List Draft) (attrs : List DocAttr) (links : List Links) (all : Members) → PartSoFar now attrs links all no_members
-      → (more : Part) × (members_rows meta c own (ids_of first) no_part all ≡ Ok more) × (attrs ≡ more.attrs) × (links ≡ more.links) × (now ≡ first ++ more.rows)
+      → (more : Part) × (members_rows meta c own (ids_of first) no_part all ≡ Ok more) × (attrs ≡ more.attrs) × (links ≡ more.links)
+      × (now ≡ first ++ more.rows)
   unfolding members_rows
   members_end now attrs links all so = (so.0, so.4, so.2, so.3, so.1)

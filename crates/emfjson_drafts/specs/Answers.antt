@@ -6,7 +6,8 @@ use Rattle.model_documents.specs.declared.draft.Draft.{Draft}
 use Rattle.emfjson_drafts.specs.declared.held.Held.{Held}
 use Rattle.model_documents.specs.declared.draft.Links.{Links}
 use Rattle.model_documents.specs.declared.fault.ModelFault.{ModelFault}
-use Rattle.model_documents.specs.declared.fault.ModelFault.TheVariants.{NotJson, NoClass, Abstract, NoFeature, BadValue, BadRef, DupId, BadId, Bound, WrongType, Memory}
+use Rattle.model_documents.specs.declared.fault.ModelFault.TheVariants.{NotJson, NoClass, Abstract, NoFeature, BadValue, BadRef, DupId, BadId, Bound}
+use Rattle.model_documents.specs.declared.fault.ModelFault.TheVariants.{WrongType, Memory}
 use Rattle.model_documents.specs.Parts.{Part}
 use Rattle.model_documents.specs.Reads.{Read}
 
@@ -35,8 +36,10 @@ Walks old new (Ok x) read = (more : List Draft) × (read ≡ Ok more) × (new �
 Walks old new (Err e) read = IsFault e read
 
 -- what a key gives stands after the old attributes, references and rows
-abbrev pub AppendsPart : {T : Type 0} → List DocAttr → List DocAttr → List Links → List Links → List Draft → List Draft → Result T ModelFault → Read Part → Type 0
-AppendsPart attrs attrs' links links' rows rows' (Ok x) read = (more : Part) × (read ≡ Ok more) × (attrs' ≡ attrs ++ more.attrs) × (links' ≡ links ++ more.links) × (rows' ≡ rows ++ more.rows)
+abbrev pub AppendsPart : {T : Type 0} → List DocAttr → List DocAttr → List Links → List Links → List Draft → List Draft → Result T ModelFault
+    → Read Part → Type 0
+AppendsPart attrs attrs' links links' rows rows' (Ok x) read =
+    (more : Part) × (read ≡ Ok more) × (attrs' ≡ attrs ++ more.attrs) × (links' ≡ links ++ more.links) × (rows' ≡ rows ++ more.rows)
 AppendsPart attrs attrs' links links' rows rows' (Err e) read = IsFault e read
 
 -- all that the keys of an object give, with the rows after the old ones

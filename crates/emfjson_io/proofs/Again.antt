@@ -27,7 +27,8 @@ flag_again meta (Flag b) h = ap (option_and_then (value_in meta FlagType)) (read
 flag_again meta v h = cc
 
 -- a whole number within 64 bits is read again, where it is of the width
-whole_again : (half : ℕ) → half ≤ 2 ^ 63 → (n : ℤ) → in_width half n ≡ true → option_and_then (whole_in half) (read (compact_text (number (of_integer n)))) ≡ Some (Whole n)
+whole_again : (half : ℕ) → half ≤ 2 ^ 63 → (n : ℤ) → in_width half n ≡ true
+    → option_and_then (whole_in half) (read (compact_text (number (of_integer n)))) ≡ Some (Whole n)
 whole_again half small (pos n) h =
     let below : n < half = ltb-true n half h in
     ap (option_and_then (whole_in half)) (read_natural n (omega arith))
@@ -54,7 +55,8 @@ long_again : (meta : Meta) (v : Value) → fits meta Long v ≡ true → value_o
 long_again meta (Whole n) h = whole_again 9223372036854775808 (omega arith) n h
 long_again meta v h = cc
 
-literal_again : (meta : Meta) → TextsAreApart meta → (e : ℕ) (v : Value) → fits meta (LiteralType e) v ≡ true → value_of meta (LiteralType e) (value_text meta (LiteralType e) v) ≡ Some v
+literal_again : (meta : Meta) → TextsAreApart meta → (e : ℕ) (v : Value) → fits meta (LiteralType e) v ≡ true
+    → value_of meta (LiteralType e) (value_text meta (LiteralType e) v) ≡ Some v
 literal_again meta apart e (Literal n) h =
     let below : n < length (literals_of meta e) = ltb-true n (literal_count meta e) h in
     ap (option_and_then (value_in meta (LiteralType e))) (read_string (literal_text meta e n))

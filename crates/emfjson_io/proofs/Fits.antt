@@ -23,7 +23,8 @@ number_below : (q : Name) (xs : List Name) (n : ℕ) → number_of q xs ≡ Some
 number_below q [] n h = cc
 number_below q (x ∷ xs) n h = by_test (bytes_eq q x) (number_of q xs) refl (λ m e. number_below q xs m e) h
   where
-    by_test : (b : Bool) (o : Option ℕ) → number_of q xs ≡ o → ((m : ℕ) → number_of q xs ≡ Some m → m < length xs) → cond b (Some 0) (option_map (λ n. suc n) o) ≡ Some n → n < suc (length xs)
+    by_test : (b : Bool) (o : Option ℕ) → number_of q xs ≡ o → ((m : ℕ) → number_of q xs ≡ Some m → m < length xs)
+        → cond b (Some 0) (option_map (λ n. suc n) o) ≡ Some n → n < suc (length xs)
     by_test true o is more h = let e : 0 ≡ n = cc in omega (arith, e)
     by_test false None is more h = cc
     by_test false (Some m) is more h = let e : suc m ≡ n = cc in let k : m < length xs = more m is in omega (arith, e, k)
@@ -53,7 +54,8 @@ narrow_fits half (Some n) v h = by_test (in_width half n) refl h
     by_test true is h = (n, cc, is)
     by_test false is h = cc
 
-named_fits : (meta : Meta) (e : ℕ) (o : Option (List ℕ)) (v : Value) → option_map (λ n. Literal n) (option_and_then (literal_in (literals_of meta e)) o) ≡ Some v → fits meta (LiteralType e) v ≡ true
+named_fits : (meta : Meta) (e : ℕ) (o : Option (List ℕ)) (v : Value)
+    → option_map (λ n. Literal n) (option_and_then (literal_in (literals_of meta e)) o) ≡ Some v → fits meta (LiteralType e) v ≡ true
 named_fits meta e None v h = cc
 named_fits meta e (Some text) v h = by_number (literal_in (literals_of meta e) text) refl h
   where

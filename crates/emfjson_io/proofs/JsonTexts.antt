@@ -32,4 +32,5 @@ pub read_natural : (n : ℕ) → n < 2 ^ 64 → read (compact_text (number (unsi
 read_natural n h = read_outline (number (unsigned n)) (IsNumber-decimal n h) (omega arith) (ap (option_map number) (number_of-decimal n h))
 
 pub read_negative : (n : ℕ) → n < 2 ^ 63 → read (compact_text (number (negative (negsuc n)))) ≡ Some (number (negative (negsuc n)))
-read_negative n h = read_outline (number (negative (negsuc n))) (IsNumber-signed_decimal (negsuc n) h) (omega arith) (ap (option_map number) (number_of-negative n h))
+read_negative n h = read_outline (number (negative (negsuc n))) (IsNumber-signed_decimal (negsuc n) h) (omega arith)
+    (ap (option_map number) (number_of-negative n h))

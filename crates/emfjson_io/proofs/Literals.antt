@@ -38,7 +38,8 @@ number_at (y ∷ ys) (suc n) x apart is =
     let parts = neither (list_any (bytes_eq y) ys) (has_repeat ys) apart in
     by_test (bytes_eq x y) refl parts.0 (number_at ys n x parts.1 is)
   where
-    by_test : (b : Bool) → bytes_eq x y ≡ b → list_any (bytes_eq y) ys ≡ false → number_of x ys ≡ Some n → cond b (Some 0) (option_map (λ n. suc n) (number_of x ys)) ≡ Some (suc n)
+    by_test : (b : Bool) → bytes_eq x y ≡ b → list_any (bytes_eq y) ys ≡ false → number_of x ys ≡ Some n
+        → cond b (Some 0) (option_map (λ n. suc n) (number_of x ys)) ≡ Some (suc n)
     by_test true e none more =
         let there : list_any (bytes_eq y) ys ≡ true = any_there (bytes_eq y) ys n x is (subst (λ z. bytes_eq z x ≡ true) (same x y e) (itself x)) in
         cc

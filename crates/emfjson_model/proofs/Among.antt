@@ -25,7 +25,8 @@ or_also true false = refl
 or_also false true = refl
 or_also false false = refl
 
-pub one_more : (n q : ℕ) (list : List ℕ) (had has : Bool) → had ≡ list_any (nat_eq q) list → has ≡ cond (is_at (nat_cmp n) q) true had → has ≡ list_any (nat_eq q) (list ++ n ∷ [])
+pub one_more : (n q : ℕ) (list : List ℕ) (had has : Bool) → had ≡ list_any (nat_eq q) list → has ≡ cond (is_at (nat_cmp n) q) true had
+    → has ≡ list_any (nat_eq q) (list ++ n ∷ [])
 one_more n q list had has before now =
     now
     ∙ (λ i. cond (at_number n q i) true (before i))

@@ -15,7 +15,8 @@ both false b e = cc
 tells_digits : IsDigitsTest (λ ds. list_all is_ascii_digit ds ≡ true)
 tells_digits = record {
   empty = refl;
-  parts = λ c cs e. let k = both (is_ascii_digit c) (list_all is_ascii_digit cs) e in let m = both (leb 48 c) (leb c 57) k.0 in ((leb-true 48 c m.0, leb-true c 57 m.1), k.1);
+  parts = λ c cs e. let k = both (is_ascii_digit c) (list_all is_ascii_digit cs) e in let m = both (leb 48 c) (leb c 57) k.0
+      in ((leb-true 48 c m.0, leb-true c 57 m.1), k.1);
   more = λ c cs k e i. (le-leb 48 c k.0 i && le-leb c 57 k.1 i) && e i;
 }
 
@@ -30,7 +31,8 @@ none_by_last true true n = refl
 none_by_last true false n = refl
 none_by_last false b n = refl
 
-read_as : {E : Type 0} (word : List ℕ) (r : Result ℕ E) (e : E) → ParsesUnsigned 32 10 word r → r ≡ Err e → 1 ≤ length word → list_all is_ascii_digit word ≡ true → None ≡ number_of word
+read_as : {E : Type 0} (word : List ℕ) (r : Result ℕ E) (e : E) → ParsesUnsigned 32 10 word r → r ≡ Err e → 1 ≤ length word
+    → list_all is_ascii_digit word ≡ true → None ≡ number_of word
 read_as word r e reads is some digits = by (nat_lt (digits_value 10 word) (2 ^ 32)) refl
   where
     by : (b : Bool) → nat_lt (digits_value 10 word) (2 ^ 32) ≡ b → None ≡ number_of word
@@ -40,6 +42,7 @@ read_as word r e reads is some digits = by (nat_lt (digits_value 10 word) (2 ^ 3
     by false t = rw t (none_by_last (nat_lt 0 (length word)) (list_all is_ascii_digit word) (digits_value 10 word))
 
 -- a numeral that std does not read is too large
-pub too_large : {E : Type 0} (word : List ℕ) (r : Result ℕ E) (e : E) → ParsesUnsigned 32 10 word r → r ≡ Err e → list_all is_ascii_digit word ≡ true → None ≡ number_of word
+pub too_large : {E : Type 0} (word : List ℕ) (r : Result ℕ E) (e : E) → ParsesUnsigned 32 10 word r → r ≡ Err e → list_all is_ascii_digit word ≡ true
+    → None ≡ number_of word
 too_large [] r e reads is digits = refl
 too_large (first ∷ rest) r e reads is digits = read_as (first ∷ rest) r e reads is (omega arith) digits

@@ -1,5 +1,6 @@
 -- Which elements name an element by a feature, one element after another.
-use Rattle.std.proofs.Common.{◌≡◌, ℕ, suc, ◌+◌, ◌-◌, ◌<◌, ◌≤◌, Bool, true, false, cond, not, List, [], ◌∷◌, ◌++◌, length, take, get_or, refl, sym, ap, ◌∙◌, ◌&&◌, ◌||◌, arith, nat_eq, length-append, append-nil, inl, inr}
+use Rattle.std.proofs.Common.{◌≡◌, ℕ, suc, ◌+◌, ◌-◌, ◌<◌, ◌≤◌, Bool, true, false, cond, not, List, [], ◌∷◌, ◌++◌, length, take, get_or, refl, sym, ap}
+use Rattle.std.proofs.Common.{◌∙◌, ◌&&◌, ◌||◌, arith, nat_eq, length-append, append-nil, inl, inr}
 use Rattle.std.specs.Prelude.{Option, None, Some, unwrap_or, slice_get}
 use Rattle.std.specs.Option.{option_map_or}
 use Rattle.std.specs.Cmp.{nat_eq_equiv}
@@ -75,7 +76,8 @@ or_false : (a : Bool) → (a || false) ≡ a
 or_false true = refl
 or_false false = refl
 
-any_more : {X : Type 0} (p : X → Bool) (xs : List X) (i : ℕ) (d : X) → i < length xs → list_any p (take (i + 1) xs) ≡ (list_any p (take i xs) || p (get_or xs i d))
+any_more : {X : Type 0} (p : X → Bool) (xs : List X) (i : ℕ) (d : X) → i < length xs
+    → list_any p (take (i + 1) xs) ≡ (list_any p (take i xs) || p (get_or xs i d))
 any_more p xs i d less =
     ap (list_any p) (take_more xs i d less)
     ∙ list_any-append p (take i xs) (get_or xs i d ∷ [])
@@ -92,7 +94,8 @@ both false false true = refl
 both false false false = refl
 
 pub target_more : (ts : List ℕ) (i g : ℕ) (q : DocParent) → i < length ts
-    → (list_any (nat_eq q.row) (take i ts) && nat_eq g q.feature || parent_eq (record { row = get_or ts i 0; feature = g }) q) ≡ (list_any (nat_eq q.row) (take (i + 1) ts) && nat_eq g q.feature)
+    → (list_any (nat_eq q.row) (take i ts) && nat_eq g q.feature || parent_eq (record { row = get_or ts i 0; feature = g }) q) ≡ (list_any
+    (nat_eq q.row) (take (i + 1) ts) && nat_eq g q.feature)
 target_more ts i g q less =
     ap (λ b. list_any (nat_eq q.row) (take i ts) && nat_eq g q.feature || b && nat_eq g q.feature) (nat_eq_equiv.symm (get_or ts i 0) q.row)
     ∙ both (list_any (nat_eq q.row) (take i ts)) (nat_eq q.row (get_or ts i 0)) (nat_eq g q.feature)
@@ -112,11 +115,13 @@ there : (ts : ℕ → Bool) (f : ℕ) (xs : List DocRefs) → list_any (λ (r : 
 there ts f [] h = cc
 there ts f (x ∷ xs) h =
     elim (or_split (ts x.feature && nat_eq x.feature f) (list_any (λ (r : DocRefs). ts r.feature && nat_eq r.feature f) xs) h) [
-      | inl e ↦ ap ts (sym (nat_equality.exact x.feature f (and_second (ts x.feature) (nat_eq x.feature f) e))) ∙ and_first (ts x.feature) (nat_eq x.feature f) e
+      | inl e ↦ ap ts (sym (nat_equality.exact x.feature f (and_second (ts x.feature) (nat_eq x.feature f) e)))
+          ∙ and_first (ts x.feature) (nat_eq x.feature f) e
       | inr e ↦ there ts f xs e
     ]
 
-back : (ts : ℕ → Bool) (f : ℕ) (xs : List DocRefs) → ts f ≡ true → has (features xs) f ≡ true → list_any (λ (r : DocRefs). ts r.feature && nat_eq r.feature f) xs ≡ true
+back : (ts : ℕ → Bool) (f : ℕ) (xs : List DocRefs) → ts f ≡ true → has (features xs) f ≡ true
+    → list_any (λ (r : DocRefs). ts r.feature && nat_eq r.feature f) xs ≡ true
 back ts f [] t h = cc
 back ts f (x ∷ xs) t h =
     elim (or_split (nat_eq f x.feature) (has (features xs) f) h) [
@@ -135,18 +140,23 @@ all_refs refs q =
     (λ t. back ts q.feature refs t (listed refs q.feature q.row t))
 
 -- ---- all elements
-naming_last : (g a n : ℕ) (given : List (List DocRefs)) (refs : List DocRefs) (m : ℕ) → n + length given ≡ m → naming g a [] n (given ++ refs ∷ []) ≡ naming g a [] n given ++ cond {A = List ℕ} (list_any (nat_eq a) (targets_at g refs) && true) (m ∷ []) []
+naming_last : (g a n : ℕ) (given : List (List DocRefs)) (refs : List DocRefs) (m : ℕ) → n + length given ≡ m
+    → naming g a [] n (given ++ refs ∷ []) ≡ naming g a [] n given ++ cond {A = List ℕ} (list_any (nat_eq a) (targets_at g refs) && true) (m ∷ []) []
 naming_last g a n [] refs m is = ap (λ k. cond {A = List ℕ} (list_any (nat_eq a) (targets_at g refs) && true) (k ∷ []) []) (same n m is)
   where
     same : (n m : ℕ) → n + 0 ≡ m → n ≡ m
     same n m is = omega (arith, is)
-naming_last g a n (first ∷ given) refs m is = by (list_any (nat_eq a) (targets_at g first) && true) (naming_last g a (suc n) given refs m (moved n (length given) m is))
+naming_last g a n (first ∷ given) refs m is =
+    by (list_any (nat_eq a) (targets_at g first) && true) (naming_last g a (suc n) given refs m (moved n (length given) m is))
   where
     moved : (n k m : ℕ) → n + suc k ≡ m → suc n + k ≡ m
     moved n k m is = omega (arith, is)
 
-    by : (b : Bool) → naming g a [] (suc n) (given ++ refs ∷ []) ≡ naming g a [] (suc n) given ++ cond {A = List ℕ} (list_any (nat_eq a) (targets_at g refs) && true) (m ∷ []) []
-        → cond b (n ∷ naming g a [] (suc n) (given ++ refs ∷ [])) (naming g a [] (suc n) (given ++ refs ∷ [])) ≡ cond b (n ∷ naming g a [] (suc n) given) (naming g a [] (suc n) given) ++ cond {A = List ℕ} (list_any (nat_eq a) (targets_at g refs) && true) (m ∷ []) []
+    by : (b : Bool) → naming g a [] (suc n) (given ++ refs ∷ []) ≡ naming g a [] (suc n) given
+        ++ cond {A = List ℕ} (list_any (nat_eq a) (targets_at g refs) && true) (m ∷ []) []
+        → cond b (n ∷ naming g a [] (suc n) (given ++ refs ∷ [])) (naming g a [] (suc n) (given ++ refs ∷ [])) ≡ cond b
+        (n ∷ naming g a [] (suc n) given) (naming g a [] (suc n) given)
+        ++ cond {A = List ℕ} (list_any (nat_eq a) (targets_at g refs) && true) (m ∷ []) []
     by true h = ap (λ l. n ∷ l) h
     by false h = h
 
@@ -167,7 +177,8 @@ naming_more g a given n refs less is =
 not_before : (g a : ℕ) (given : List (List DocRefs)) (n : ℕ) → n < length given → ends_with n (naming g a [] 0 (take n given)) ≡ false
 not_before g a given n less = not_so (ends_with n (naming g a [] 0 (take n given))) (λ e.
     let at = named_in g a [] 0 (take n given) n (ends_has (naming g a [] 0 (take n given)) n e) in
-    apart n at.place (length (take n given)) at.number (slice_get_within (take n given) at.place at.lists at.there) (length-take-le n given (lower n (length given) less)))
+    apart n at.place (length (take n given)) at.number (slice_get_within (take n given) at.place at.lists at.there)
+    (length-take-le n given (lower n (length given) less)))
   where
     lower : (n k : ℕ) → n < k → n ≤ k
     lower n k h = omega arith
@@ -184,7 +195,8 @@ sources_more g a given n refs less is = by (list_any (nat_eq a) (targets_at g re
     by false = sym (append-nil (naming g a [] 0 (take n given)))
 
 -- those among the targets are left out
-pub naming_filter : (g a : ℕ) (ts : List ℕ) (n : ℕ) (given : List (List DocRefs)) → naming g a ts n given ≡ filter (λ k. not (list_any (nat_eq k) ts)) (naming g a [] n given)
+pub naming_filter : (g a : ℕ) (ts : List ℕ) (n : ℕ) (given : List (List DocRefs))
+    → naming g a ts n given ≡ filter (λ k. not (list_any (nat_eq k) ts)) (naming g a [] n given)
 naming_filter g a ts n [] = refl
 naming_filter g a ts n (refs ∷ given) = by (list_any (nat_eq a) (targets_at g refs)) (naming_filter g a ts (suc n) given)
   where

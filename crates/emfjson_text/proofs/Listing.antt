@@ -1,5 +1,6 @@
 -- How the text of an object, or of a list of elements, begins and goes on.
-use Rattle.std.proofs.Common.{◌≡◌, ℕ, ◌+◌, zero, suc, ◌<◌, ◌≤◌, nat_eq, nat_lt, Bool, true, false, List, [], ◌∷◌, ◌++◌, length, refl, sym, ap, ◌∙◌, arith, map, drop, append_assoc, get_or}
+use Rattle.std.proofs.Common.{◌≡◌, ℕ, ◌+◌, zero, suc, ◌<◌, ◌≤◌, nat_eq, nat_lt, Bool, true, false, List, [], ◌∷◌, ◌++◌, length, refl, sym, ap, ◌∙◌}
+use Rattle.std.proofs.Common.{arith, map, drop, append_assoc, get_or}
 use Rattle.std.specs.Prelude.{Option, None, Some, slice_get, unwrap_or}
 use Rattle.std.proofs.lemmas.Bool.Decides.{nat_tests}
 use Rattle.std.specs.FinMap.{get}
@@ -25,7 +26,8 @@ cc_some : {A : Type 0} (x y : A) → Some x ≡ Some y → x ≡ y
 cc_some x y h = cc
 
 -- a list that is not written as one object is an array
-pub not_one : (f : IdBytes → Data) (single : Bool) (es : List Entry) → None ≡ only single es → one_or_list single (map f (entry_ids es)) ≡ array (items_of (map f (entry_ids es)))
+pub not_one : (f : IdBytes → Data) (single : Bool) (es : List Entry) → None ≡ only single es
+    → one_or_list single (map f (entry_ids es)) ≡ array (items_of (map f (entry_ids es)))
 not_one f single [] is = refl
 not_one f false (x ∷ []) is = refl
 not_one f true (x ∷ []) is = cc
@@ -124,10 +126,13 @@ module _ (meta : Meta) (m : State) where
       ∙ ap (λ ks. 123 ∷ members_text false (members (key_name meta) (part meta m (whole meta m) e c) ks)) (sym are)
 
   pub item_begun : (entries : List Entry) (next : ℕ) (x : Entry) → Some x ≡ slice_get entries next
-      → frame_text meta m (ArrayFrame entries next) ≡ comma_if (nat_lt 0 next) ++ (compact_text (whole meta m x.id) ++ frame_text meta m (ArrayFrame entries (next + 1)))
+      → frame_text meta m (ArrayFrame entries next) ≡ comma_if (nat_lt 0 next)
+      ++ (compact_text (whole meta m x.id) ++ frame_text meta m (ArrayFrame entries (next + 1)))
   item_begun entries next x is =
       ap (λ xs. items_text (nat_lt 0 next) (items_of (map (whole meta m) (entry_ids xs)))) (split_at entries next x is)
-      ∙ ap (λ later. comma_if (nat_lt 0 next) ++ (compact_text (whole meta m x.id) ++ items_text later (items_of (map (whole meta m) (entry_ids (drop (next + 1) entries)))))) (sym (later_is next))
+      ∙ ap (λ later. comma_if (nat_lt 0 next)
+      ++ (compact_text (whole meta m x.id) ++ items_text later (items_of (map (whole meta m) (entry_ids (drop (next + 1) entries))))))
+      (sym (later_is next))
 
   pub items_ended : (entries : List Entry) (next : ℕ) → None ≡ slice_get entries next → frame_text meta m (ArrayFrame entries next) ≡ 93 ∷ []
   items_ended entries next is = ap (λ xs. items_text (nat_lt 0 next) (items_of (map (whole meta m) (entry_ids xs)))) (past_end entries next is)
@@ -141,21 +146,29 @@ module _ (meta : Meta) (m : State) where
     pub key_absent : (at : ℕ) (k : Key) (p : Part) → Some k ≡ slice_get keys at → shown (whole meta m) p ≡ text_if (part meta m (whole meta m) e c k)
         → is_absent p ≡ true → members_from meta m e c keys at ≡ members_from meta m e c keys (at + 1)
     key_absent at k p is holds none =
-        key_found at k is ∙ ap (λ o. with_member (key_name meta k) o (members_from meta m e c keys (at + 1))) (nothing_of _ (sym holds ∙ nothing_shown (whole meta m) p none))
+        key_found at k is ∙ ap (λ o. with_member (key_name meta k) o (members_from meta m e c keys (at + 1)))
+        (nothing_of _ (sym holds ∙ nothing_shown (whole meta m) p none))
 
     pub no_more : (at : ℕ) → length keys ≤ at → members_from meta m e c keys at ≡ no_members
     unfolding members_from
     no_more at is = ap (members (key_name meta) (part meta m (whole meta m) e c)) (dropped keys at is)
 
     pub member_begun : (next : ℕ) (later : Bool) (found : Found) → Finds meta m e c keys next (Some found)
-        → members_text later (members_from meta m e c keys next) ≡ key_text later (key_name meta found.key) ++ (part_text meta m found.part ++ members_text true (members_from meta m e c keys found.after))
+        → members_text later (members_from meta m e c keys next) ≡ key_text later (key_name meta found.key)
+        ++ (part_text meta m found.part ++ members_text true (members_from meta m e c keys found.after))
     member_begun next later found is =
-        let held = text_of (part meta m (whole meta m) e c found.key) (part_text meta m found.part) (sym is.1 ∙ something_shown (whole meta m) found.part is.2) in
-        ap (members_text later) is.0 ∙ begun (key_name meta found.key) later (part meta m (whole meta m) e c found.key) held.0 held.1 (members_from meta m e c keys found.after)
+        let held = text_of (part meta m (whole meta m) e c found.key) (part_text meta m found.part)
+        (sym is.1 ∙ something_shown (whole meta m) found.part is.2) in
+        ap (members_text later) is.0
+        ∙ begun (key_name meta found.key) later (part meta m (whole meta m) e c found.key) held.0 held.1 (members_from meta m e c keys found.after)
         ∙ ap (λ t. key_text later (key_name meta found.key) ++ (t ++ members_text true (members_from meta m e c keys found.after))) held.2
       where
         begun : (name : List ℕ) (later : Bool) (o : Option Data) (d : Data) → o ≡ Some d → (ms : Members)
             → members_text later (with_member name o ms) ≡ key_text later name ++ (compact_text d ++ members_text true ms)
         begun name later None d is ms = cc
-        begun name true (Some x) d is ms = ap (λ t. 44 ∷ t) (shuffle (quoted name) (compact_text x ++ members_text true ms)) ∙ ap (λ z. key_text true name ++ (compact_text z ++ members_text true ms)) (cc_some x d is)
-        begun name false (Some x) d is ms = shuffle (quoted name) (compact_text x ++ members_text true ms) ∙ ap (λ z. key_text false name ++ (compact_text z ++ members_text true ms)) (cc_some x d is)
+        begun name true (Some x) d is ms =
+            ap (λ t. 44 ∷ t) (shuffle (quoted name) (compact_text x ++ members_text true ms))
+            ∙ ap (λ z. key_text true name ++ (compact_text z ++ members_text true ms)) (cc_some x d is)
+        begun name false (Some x) d is ms =
+            shuffle (quoted name) (compact_text x ++ members_text true ms)
+            ∙ ap (λ z. key_text false name ++ (compact_text z ++ members_text true ms)) (cc_some x d is)

@@ -69,7 +69,8 @@ members_from meta m e c keys next = members (key_name meta) (part meta m (whole 
 abbrev pub Finds : Meta → State → IdBytes → ℕ → List Key → ℕ → Option Found → Type 0
 Finds meta m e c keys next None = members_from meta m e c keys next ≡ no_members
 Finds meta m e c keys next (Some found) =
-    (members_from meta m e c keys next ≡ with_member (key_name meta found.key) (part meta m (whole meta m) e c found.key) (members_from meta m e c keys found.after))
+    (members_from meta m e c keys next ≡ with_member (key_name meta found.key) (part meta m (whole meta m) e c found.key)
+    (members_from meta m e c keys found.after))
     × (shown (whole meta m) found.part ≡ text_if (part meta m (whole meta m) e c found.key))
     × (is_absent found.part ≡ false)
 

@@ -8,7 +8,8 @@ use Rattle.plain_repository.specs.Events.{play, playable}
 use Rattle.repo_state.specs.declared.fault.ReplayFault.{ReplayFault}
 
 -- the event that was read was made
-pub replayed : (r : Result (Unit {0}) ReplayFault) (old new : State) (bytes : List ℕ) (e : Event) → bytes ≡ event_encoding e → OnOk r (IsTrue (playable old e)) → OnOk r (new ≡ play old e)
+pub replayed : (r : Result (Unit {0}) ReplayFault) (old new : State) (bytes : List ℕ) (e : Event) → bytes ≡ event_encoding e
+    → OnOk r (IsTrue (playable old e)) → OnOk r (new ≡ play old e)
     → OnOk r ((event : Event) × IsTrue (playable old event) × (bytes ≡ event_encoding event) × (new ≡ play old event))
 replayed (Ok x) old new bytes e is could made = (e, could, is, made)
 replayed (Err f) old new bytes e is could made = tt

@@ -31,13 +31,16 @@ pub commit_there : (s : State) (m : Option Meta) (ws : ℕ) (message : List ℕ)
 commit_there s None ws message could = absurd cc
 commit_there s (Some meta) ws message could = tested (can_commit s.history) refl (workspace_of s ws) could
 
-pub signed_there : (s : State) (m : Option Meta) (ws : ℕ) (author : List ℕ) (moment : ℕ) (message : List ℕ) → playable_with s m (Signed ws author moment message) ≡ true → is_some (workspace_of s ws) ≡ true
+pub signed_there : (s : State) (m : Option Meta) (ws : ℕ) (author : List ℕ) (moment : ℕ) (message : List ℕ)
+    → playable_with s m (Signed ws author moment message) ≡ true → is_some (workspace_of s ws) ≡ true
 signed_there s None ws author moment message could = absurd cc
-signed_there s (Some meta) ws author moment message could = tested (can_commit s.history) refl (workspace_of s ws) (and_right (is_name author) (can_commit s.history (workspace_of s ws)) could)
+signed_there s (Some meta) ws author moment message could =
+    tested (can_commit s.history) refl (workspace_of s ws) (and_right (is_name author) (can_commit s.history (workspace_of s ws)) could)
 
 pub branch_there : (s : State) (m : Option Meta) (ws : ℕ) (name : List ℕ) → playable_with s m (Branch ws name) ≡ true → is_some (workspace_of s ws) ≡ true
 branch_there s None ws name could = absurd cc
-branch_there s (Some meta) ws name could = tested is_closed refl (workspace_of s ws) (and_right (is_name name && is_new_branch s.history name) (is_closed (workspace_of s ws)) could)
+branch_there s (Some meta) ws name could =
+    tested is_closed refl (workspace_of s ws) (and_right (is_name name && is_new_branch s.history name) (is_closed (workspace_of s ws)) could)
 
 pub drop_there : (s : State) (m : Option Meta) (ws : ℕ) → playable_with s m (Drop ws) ≡ true → is_some (workspace_of s ws) ≡ true
 drop_there s None ws could = absurd cc

@@ -2,7 +2,8 @@
 use Rattle.std.specs.Prelude.{◌==◌, Bool, Option, Some, None, true, false}
 use Rattle.history_tree.specs.History.{History, head}
 use Rattle.op_form.specs.declared.event.Event.{Event}
-use Rattle.op_form.specs.declared.event.Event.TheVariants.{Init, Checkout, Edit, Begin, End, Undo, Discard, Tidy, Commit, Branch, Tag, Update, Merge, Drop, Evolve, Upgrade, Signed}
+use Rattle.op_form.specs.declared.event.Event.TheVariants.{Init, Checkout, Edit, Begin, End, Undo, Discard, Tidy, Commit, Branch, Tag, Update, Merge}
+use Rattle.op_form.specs.declared.event.Event.TheVariants.{Drop, Evolve, Upgrade, Signed}
 use Rattle.plain_repository.specs.State.{Workspace}
 
 -- the events whose test is a part of making them: a text is read, steps are taken, or operations are compared

@@ -6,7 +6,8 @@ use Rattle.std.specs.declared.cmp.Ordering.{Ordering}
 use Rattle.std.specs.declared.cmp.Ordering.TheVariants.{Less, Equal, Greater}
 use Rattle.std.specs.Ordering.{eq_by_cmp, is_eq, is_lt}
 use Rattle.std.specs.Cmp.{eq_by_cmp_equiv, alike_right}
-use Rattle.std.specs.FinMap.{FinMap, get, remove, entries, from_sorted, entries_sorted, entries-insert, get-entries, get-remove, get-from_sorted, entries-from_sorted, find, put, is_sorted}
+use Rattle.std.specs.FinMap.{FinMap, get, remove, entries, from_sorted, entries_sorted, entries-insert, get-entries, get-remove, get-from_sorted}
+use Rattle.std.specs.FinMap.{entries-from_sorted, find, put, is_sorted}
 use Rattle.std.specs.FinMap.Entries.{below_all, where_key, by_order, is_sorted-where_key, find-where_key}
 use Rattle.finite_maps.specs.Maps.{passes, set, tally, count, counts, is_below, is_within}
 use Rattle.finite_maps.proofs.MapLaws.{IsKeyOrder, same, same_key, own_key}
@@ -80,7 +81,9 @@ module _ {K X : Type 0} {R : K → K → Ordering} (o : IsKeyOrder R) where
       → tally p (put R k v es) + counts p k (find R k es) ≡ tally p es + counts p k (Some v)
   count-put p k v [] h = omega arith
   count-put p k v (e ∷ es) h =
-      elim (R k e.0) as (λ r. R k e.0 ≡ r → tally p (by_order r ((k, v) ∷ e ∷ es) ((e.0, v) ∷ es) (e ∷ put R k v es)) + counts p k (cond (is_eq r) (Some e.1) (find R k es)) ≡ tally p (e ∷ es) + counts p k (Some v)) [
+      elim (R k e.0) as (λ r. R k e.0 ≡ r
+      → tally p (by_order r ((k, v) ∷ e ∷ es) ((e.0, v) ∷ es) (e ∷ put R k v es)) + counts p k (cond (is_eq r) (Some e.1) (find R k es)) ≡ tally p
+      (e ∷ es) + counts p k (Some v)) [
         | Less ↦ λ is.
             let none : find R k es ≡ None = find_below k es (below_less k e.0 es is (first _ _ h)) in
             let none' : counts p k (find R k es) ≡ 0 = ap (counts p k) none in
@@ -100,7 +103,8 @@ module _ {K X : Type 0} {R : K → K → Ordering} (o : IsKeyOrder R) where
   count-without p k (e ∷ es) h =
       let rest = count-without p k es (second _ _ h) in
       let left = where_key R (λ x. not (eq_by_cmp R k x)) es in
-      elim (eq_by_cmp R k e.0) as (λ b. eq_by_cmp R k e.0 ≡ b → tally p (cond (not b) (e ∷ left) left) + counts p k (cond b (Some e.1) (find R k es)) ≡ tally p (e ∷ es)) [
+      elim (eq_by_cmp R k e.0) as (λ b. eq_by_cmp R k e.0 ≡ b
+      → tally p (cond (not b) (e ∷ left) left) + counts p k (cond b (Some e.1) (find R k es)) ≡ tally p (e ∷ es)) [
         | true ↦ λ is.
             let same : k ≡ e.0 = same_key o k e.0 is in
             let none : find R k es ≡ None = subst (λ x. find R x es ≡ None) (sym same) (find_below e.0 es (first _ _ h)) in
@@ -162,25 +166,30 @@ module _ {K X : Type 0} {R : K → K → Ordering} (o : IsKeyOrder R) where
       no_one (p (q, v)) (omega (arith, sum, here, zero))
 
   -- one entry more, where there is room
-  pub one_more : (p : K × X → Bool) (m : FinMap R X) (e : K) (v : X) (upper : Option ℕ) → get m e ≡ None → is_within (count p m) upper ≡ true → (p (e, v) ≡ true → is_below (count p m) upper ≡ true) → is_within (count p (set m e (Some v))) upper ≡ true
+  pub one_more : (p : K × X → Bool) (m : FinMap R X) (e : K) (v : X) (upper : Option ℕ) → get m e ≡ None → is_within (count p m) upper ≡ true
+      → (p (e, v) ≡ true → is_below (count p m) upper ≡ true) → is_within (count p (set m e (Some v))) upper ≡ true
   one_more p m e v None none old room = refl
   one_more p m e v (Some n) none old room =
       let sum : count p (set m e (Some v)) + counts p e (get m e) ≡ count p m + counts p e (Some v) = count-set p m e (Some v) in
       let was : counts p e (get m e) ≡ 0 = ap (counts p e) none in
       elim (p (e, v)) as (λ b. p (e, v) ≡ b → nat_le (count p (set m e (Some v))) n ≡ true) [
-        | true ↦ λ is. let now : counts p e (Some v) ≡ 1 = ap (λ b. cond b 1 0) is in let under : nat_lt (count p m) n ≡ true = room is in le_of_lt _ _ n (omega (arith, sum, was, now)) under
-        | false ↦ λ is. let now : counts p e (Some v) ≡ 0 = ap (λ b. cond b 1 0) is in let same : count p (set m e (Some v)) ≡ count p m = omega (arith, sum, was, now) in ap (λ k. nat_le k n) same ∙ old
+        | true ↦ λ is. let now : counts p e (Some v) ≡ 1 = ap (λ b. cond b 1 0) is in let under : nat_lt (count p m) n ≡ true = room is
+            in le_of_lt _ _ n (omega (arith, sum, was, now)) under
+        | false ↦ λ is. let now : counts p e (Some v) ≡ 0 = ap (λ b. cond b 1 0) is
+            in let same : count p (set m e (Some v)) ≡ count p m = omega (arith, sum, was, now) in ap (λ k. nat_le k n) same ∙ old
       ] refl
 
   -- an entry less
-  pub one_less : (p : K × X → Bool) (m : FinMap R X) (e : K) (upper : Option ℕ) → is_within (count p m) upper ≡ true → is_within (count p (set m e None)) upper ≡ true
+  pub one_less : (p : K × X → Bool) (m : FinMap R X) (e : K) (upper : Option ℕ) → is_within (count p m) upper ≡ true
+      → is_within (count p (set m e None)) upper ≡ true
   one_less p m e None old = refl
   one_less p m e (Some n) old =
       let sum : count p (set m e None) + counts p e (get m e) ≡ count p m + 0 = count-set p m e None in
       le_of_le _ _ n (omega (arith, sum)) old
 
   -- without an entry there is room for one
-  pub one_free : (p : K × X → Bool) (m : FinMap R X) (e : K) (v : X) (upper : Option ℕ) → get m e ≡ Some v → p (e, v) ≡ true → is_within (count p m) upper ≡ true → is_below (count p (set m e None)) upper ≡ true
+  pub one_free : (p : K × X → Bool) (m : FinMap R X) (e : K) (v : X) (upper : Option ℕ) → get m e ≡ Some v → p (e, v) ≡ true
+      → is_within (count p m) upper ≡ true → is_below (count p (set m e None)) upper ≡ true
   one_free p m e v None is passes old = refl
   one_free p m e v (Some n) is passes old =
       let sum : count p (set m e None) + counts p e (get m e) ≡ count p m + 0 = count-set p m e None in
@@ -194,7 +203,8 @@ module _ {K X : Type 0} {R : K → K → Ordering} (o : IsKeyOrder R) where
       omega (arith, sum, was, now)
 
   -- an entry less leaves the room that there is
-  pub still_room : (p : K × X → Bool) (m : FinMap R X) (e : K) (upper : Option ℕ) → is_below (count p m) upper ≡ true → is_below (count p (set m e None)) upper ≡ true
+  pub still_room : (p : K × X → Bool) (m : FinMap R X) (e : K) (upper : Option ℕ) → is_below (count p m) upper ≡ true
+      → is_below (count p (set m e None)) upper ≡ true
   still_room p m e None old = refl
   still_room p m e (Some n) old =
       let sum : count p (set m e None) + counts p e (get m e) ≡ count p m + 0 = count-set p m e None in
@@ -236,18 +246,21 @@ module _ {K X : Type 0} {R : K → K → Ordering} (o : IsKeyOrder R) (p : K × 
   find-marks : (q : K) (es : List (K × X)) → T (is_sorted R es) → find R q (marks p es) ≡ cond (passes p q (find R q es)) (Some tt) None
   find-marks q [] h = refl
   find-marks q (e ∷ es) h =
-      elim (eq_by_cmp R q e.0) as (λ t. eq_by_cmp R q e.0 ≡ t → find R q (marks p (e ∷ es)) ≡ cond (passes p q (cond t (Some e.1) (find R q es))) (Some tt) None) [
+      elim (eq_by_cmp R q e.0) as (λ t. eq_by_cmp R q e.0 ≡ t
+      → find R q (marks p (e ∷ es)) ≡ cond (passes p q (cond t (Some e.1) (find R q es))) (Some tt) None) [
         | true ↦ λ t.
             let here : q ≡ e.0 = same_key o q e.0 t in
             let none : find R q es ≡ None = subst (λ x. find R x es ≡ None) (sym here) (find_below o e.0 es (first _ _ h)) in
             let later : find R q (marks p es) ≡ None = find-marks q es (second _ _ h) ∙ ap (λ z. cond (passes p q z) (Some tt) None) none in
-            elim (p e) as (λ b. p e ≡ b → find R q (cond {A = List (K × Unit {0})} b ((e.0, tt) ∷ marks p es) (marks p es)) ≡ cond (p (q, e.1)) (Some tt) None) [
+            elim (p e) as (λ b. p e ≡ b
+            → find R q (cond {A = List (K × Unit {0})} b ((e.0, tt) ∷ marks p es) (marks p es)) ≡ cond (p (q, e.1)) (Some tt) None) [
               | true ↦ λ is. ap (λ b. cond b (Some tt) (find R q (marks p es))) t ∙ sym (ap (λ b. cond b (Some tt) None) (ap (λ x. p (x, e.1)) here ∙ is))
               | false ↦ λ is. later ∙ sym (ap (λ b. cond b (Some tt) None) (ap (λ x. p (x, e.1)) here ∙ is))
             ] refl
         | false ↦ λ t.
             let rest = find-marks q es (second _ _ h) in
-            elim (p e) as (λ b. find R q (cond {A = List (K × Unit {0})} b ((e.0, tt) ∷ marks p es) (marks p es)) ≡ cond (passes p q (find R q es)) (Some tt) None) [
+            elim (p e) as (λ b. find R q (cond {A = List (K × Unit {0})} b ((e.0, tt) ∷ marks p es) (marks p es)) ≡ cond (passes p q (find R q es))
+            (Some tt) None) [
               | true ↦ ap (λ b. cond b (Some tt) (find R q (marks p es))) t ∙ rest
               | false ↦ rest
             ]

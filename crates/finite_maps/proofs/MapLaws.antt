@@ -77,13 +77,15 @@ module _ {K X : Type 0} {R : K → K → Ordering} (o : IsKeyOrder R) where
       ∙ sym (get-set (set m l w) k v q ∙ ap (cond (eq_by_cmp R q k) v) (get-set m l w q)))
 
   -- two writes undone
-  pub set_two_back : (m : FinMap R X) (k l : K) (was was' v w : Option X) → eq_by_cmp R k l ≡ false → get m k ≡ was → get m l ≡ was' → set (set (set (set m k v) l w) k was) l was' ≡ m
+  pub set_two_back : (m : FinMap R X) (k l : K) (was was' v w : Option X) → eq_by_cmp R k l ≡ false → get m k ≡ was → get m l ≡ was'
+      → set (set (set (set m k v) l w) k was) l was' ≡ m
   set_two_back m k l was was' v w apart is is' =
       ap (λ x. set x l was') (set_swap (set m k v) l k w was apart ∙ ap (λ x. set x l w) (set_back m k was v is))
       ∙ set_back m l was' w is'
 
   -- what h reads at a key is the same after the same writes
-  pub set_all_alike : {B : Type 0} (h : Option X → B) (ws : List (K × Option X)) (m n : FinMap R X) (q : K) → h (get m q) ≡ h (get n q) → h (get (set_all m ws) q) ≡ h (get (set_all n ws) q)
+  pub set_all_alike : {B : Type 0} (h : Option X → B) (ws : List (K × Option X)) (m n : FinMap R X) (q : K) → h (get m q) ≡ h (get n q)
+      → h (get (set_all m ws) q) ≡ h (get (set_all n ws) q)
   set_all_alike h [] m n q e = e
   set_all_alike h (w ∷ ws) m n q e =
       set_all_alike h ws (set m w.0 w.1) (set n w.0 w.1) q

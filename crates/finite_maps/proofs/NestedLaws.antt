@@ -51,12 +51,14 @@ or_none : {A : Type 0} (o : Option A) → first_of_two o None ≡ o
 or_none None = refl
 or_none (Some x) = refl
 
-inner_cond : {L X : Type 0} (f : BTreeMap L X → Option X) (b : Bool) (m : BTreeMap L X) (o : Option (BTreeMap L X)) → cond b (f m) (inner_get f o) ≡ inner_get f (cond b (Some m) o)
+inner_cond : {L X : Type 0} (f : BTreeMap L X → Option X) (b : Bool) (m : BTreeMap L X) (o : Option (BTreeMap L X))
+    → cond b (f m) (inner_get f o) ≡ inner_get f (cond b (Some m) o)
 inner_cond f true m o = refl
 inner_cond f false m o = refl
 
 module _ {K L X : Type 0} {R : K → K → Ordering} (S : L → L → Ordering) (o : IsKeyOrder R) (p : IsKeyOrder (pair_cmp R S)) where
-  get-over : (k : K) (xs : List (L × X)) (m : FinMap (pair_cmp R S) X) (q : K) (l : L) → get (over k xs m) (q, l) ≡ cond (eq_by_cmp R q k) (first_of_two (lookup (is_at (S l)) xs) (get m (q, l))) (get m (q, l))
+  get-over : (k : K) (xs : List (L × X)) (m : FinMap (pair_cmp R S) X) (q : K) (l : L)
+      → get (over k xs m) (q, l) ≡ cond (eq_by_cmp R q k) (first_of_two (lookup (is_at (S l)) xs) (get m (q, l))) (get m (q, l))
   get-over k [] m q l = sym (cond_same (eq_by_cmp R q k) (get m (q, l)))
     where
       cond_same : {A : Type 0} (b : Bool) (x : A) → cond b x x ≡ x
@@ -74,9 +76,13 @@ module _ {K L X : Type 0} {R : K → K → Ordering} (S : L → L → Ordering) 
   get-joined (e ∷ es) q l =
       let rest = joined R S es in
       let cleared = without (λ (k : K × L). eq_by_cmp R e.0 k.0) rest in
-      let at : get cleared (q, l) ≡ cond (eq_by_cmp R q e.0) None (get rest (q, l)) = get-without p (λ (k : K × L). eq_by_cmp R e.0 k.0) rest (q, l) ∙ ap (λ b. cond b None (get rest (q, l))) ((eq_by_cmp_equiv o.total).symm e.0 q) in
+      let at : get cleared (q, l) ≡ cond (eq_by_cmp R q e.0) None (get rest (q, l)) =
+      get-without p (λ (k : K × L). eq_by_cmp R e.0 k.0) rest (q, l)
+      ∙ ap (λ b. cond b None (get rest (q, l))) ((eq_by_cmp_equiv o.total).symm e.0 q) in
       get-over e.0 e.1.entries cleared q l
-      ∙ elim (eq_by_cmp R q e.0) as (λ b. eq_by_cmp R q e.0 ≡ b → cond b (first_of_two (lookup (is_at (S l)) e.1.entries) (get cleared (q, l))) (get cleared (q, l)) ≡ inner_get (λ m. tree.get S m l) (cond b (Some e.1) (lookup (is_at (R q)) es))) [
+      ∙ elim (eq_by_cmp R q e.0) as (λ b. eq_by_cmp R q e.0 ≡ b
+      → cond b (first_of_two (lookup (is_at (S l)) e.1.entries) (get cleared (q, l))) (get cleared (q, l)) ≡ inner_get (λ m. tree.get S m l)
+      (cond b (Some e.1) (lookup (is_at (R q)) es))) [
         | true ↦ λ t. ap (first_of_two (lookup (is_at (S l)) e.1.entries)) (at ∙ ap (λ b. cond b None (get rest (q, l))) t) ∙ or_none _
         | false ↦ λ t. at ∙ ap (λ b. cond b None (get rest (q, l))) t ∙ get-joined es q l
       ] refl
@@ -95,15 +101,21 @@ module _ {K L X : Type 0} {R : K → K → Ordering} (S : L → L → Ordering) 
       ∙ ap (inner_get (λ m. tree.get S m q.1)) (outside q.0)
       ∙ ap (λ b. inner_get (λ m. tree.get S m q.1) (cond b (Some inner) (tree.get R m q.0))) ((eq_by_cmp_equiv o.total).symm k q.0)
       ∙ sym (inner_cond (λ m. tree.get S m q.1) (eq_by_cmp R q.0 k) inner (tree.get R m q.0))
-      ∙ ap (λ z. cond (eq_by_cmp R q.0 k) z (inner_get (λ m. tree.get S m q.1) (tree.get R m q.0))) (within q.1 ∙ ap (λ b. cond b v (inner_get (λ m. tree.get S m q.1) (tree.get R m k))) ((eq_by_cmp_equiv s.total).symm l q.1))
+      ∙ ap (λ z. cond (eq_by_cmp R q.0 k) z (inner_get (λ m. tree.get S m q.1) (tree.get R m q.0)))
+      (within q.1 ∙ ap (λ b. cond b v (inner_get (λ m. tree.get S m q.1) (tree.get R m k))) ((eq_by_cmp_equiv s.total).symm l q.1))
       ∙ here q
       ∙ ap (λ b. cond b v (inner_get (λ m. tree.get S m q.1) (tree.get R m q.0))) (sym (pair_eq (R q.0 k) (S q.1 l)))
       ∙ ap (cond (eq_by_cmp (pair_cmp R S) q (k, l)) v) (sym (get-nested m q.0 q.1))
       ∙ sym (get-set p (nested R S m) (k, l) v q))
     where
-      here : (q : K × L) → cond (eq_by_cmp R q.0 k) (cond (eq_by_cmp S q.1 l) v (inner_get (λ m. tree.get S m q.1) (tree.get R m k))) (inner_get (λ m. tree.get S m q.1) (tree.get R m q.0)) ≡ cond (eq_by_cmp R q.0 k && eq_by_cmp S q.1 l) v (inner_get (λ m. tree.get S m q.1) (tree.get R m q.0))
+      here : (q : K × L) → cond (eq_by_cmp R q.0 k) (cond (eq_by_cmp S q.1 l) v (inner_get (λ m. tree.get S m q.1) (tree.get R m k)))
+          (inner_get (λ m. tree.get S m q.1) (tree.get R m q.0)) ≡ cond (eq_by_cmp R q.0 k && eq_by_cmp S q.1 l) v
+          (inner_get (λ m. tree.get S m q.1) (tree.get R m q.0))
       here q =
-          elim (eq_by_cmp R q.0 k) as (λ b. eq_by_cmp R q.0 k ≡ b → cond b (cond (eq_by_cmp S q.1 l) v (inner_get (λ m. tree.get S m q.1) (tree.get R m k))) (inner_get (λ m. tree.get S m q.1) (tree.get R m q.0)) ≡ cond (b && eq_by_cmp S q.1 l) v (inner_get (λ m. tree.get S m q.1) (tree.get R m q.0))) [
+          elim (eq_by_cmp R q.0 k) as (λ b. eq_by_cmp R q.0 k ≡ b
+          → cond b (cond (eq_by_cmp S q.1 l) v (inner_get (λ m. tree.get S m q.1) (tree.get R m k)))
+          (inner_get (λ m. tree.get S m q.1) (tree.get R m q.0)) ≡ cond (b && eq_by_cmp S q.1 l) v
+          (inner_get (λ m. tree.get S m q.1) (tree.get R m q.0))) [
             | true ↦ λ t. ap (λ x. cond (eq_by_cmp S q.1 l) v (inner_get (λ m. tree.get S m q.1) (tree.get R m x))) (sym (same_key o q.0 k t))
             | false ↦ λ t. refl
           ] refl
@@ -116,7 +128,8 @@ module _ {K L X : Type 0} {R : K → K → Ordering} (S : L → L → Ordering) 
   nested_kept m n k inner outside within = same p _ _ (λ q.
       get-nested n q.0 q.1
       ∙ ap (inner_get (λ m. tree.get S m q.1)) (outside q.0)
-      ∙ elim (is_at (R k) q.0) as (λ b. is_at (R k) q.0 ≡ b → inner_get (λ m. tree.get S m q.1) (cond b (Some inner) (tree.get R m q.0)) ≡ inner_get (λ m. tree.get S m q.1) (tree.get R m q.0)) [
+      ∙ elim (is_at (R k) q.0) as (λ b. is_at (R k) q.0 ≡ b
+      → inner_get (λ m. tree.get S m q.1) (cond b (Some inner) (tree.get R m q.0)) ≡ inner_get (λ m. tree.get S m q.1) (tree.get R m q.0)) [
         | true ↦ λ t. within q.1 ∙ ap (λ x. inner_get (λ m. tree.get S m q.1) (tree.get R m x)) (same_key o k q.0 t)
         | false ↦ λ t. refl
       ] refl

@@ -82,7 +82,8 @@ module _ {X : Type 0} {cmp : X → X → Ordering} (o : IsKeyOrder cmp) where
   turned : (x y : X) → cmp y x ≡ ordering_reverse (cmp x y)
   turned x y = o.total.antisymm y x
 
-  rises_after : (x : X) (y : X) (ys : List X) → is_lt (cmp y x) ≡ false → AllByRecursion (λ z. is_lt (cmp z y) ≡ false) ys → AllByRecursion (λ z. is_lt (cmp z x) ≡ false) ys
+  rises_after : (x : X) (y : X) (ys : List X) → is_lt (cmp y x) ≡ false → AllByRecursion (λ z. is_lt (cmp z y) ≡ false) ys
+      → AllByRecursion (λ z. is_lt (cmp z x) ≡ false) ys
   rises_after x y [] h all = tt
   rises_after x y (z ∷ zs) h all = (
     elim (is_lt (cmp z x)) as (λ b. is_lt (cmp z x) ≡ b → b ≡ false) [
@@ -96,7 +97,8 @@ module _ {X : Type 0} {cmp : X → X → Ordering} (o : IsKeyOrder cmp) where
       between x y z h g e =
           elim (cmp y x) as (λ r. cmp y x ≡ r → ⊥) [
             | Less ↦ λ is. both_so (is_lt (cmp y x)) (ap is_lt is) h
-            | Equal ↦ λ is. both_so (is_lt (cmp z y)) (ap is_lt (turned y z ∙ ap ordering_reverse (o.total.congr y x z is ∙ turned z x ∙ ap ordering_reverse e))) g
+            | Equal ↦ λ is. both_so (is_lt (cmp z y))
+                (ap is_lt (turned y z ∙ ap ordering_reverse (o.total.congr y x z is ∙ turned z x ∙ ap ordering_reverse e))) g
             | Greater ↦ λ is. both_so (is_lt (cmp z y)) (ap is_lt (o.total.trans z x y e (turned y x ∙ ap ordering_reverse is))) g
           ] refl
 
@@ -121,7 +123,8 @@ module _ {X : Type 0} {cmp : X → X → Ordering} (o : IsKeyOrder cmp) where
   rises-in_order (x ∷ xs) = rises-put_in x (in_order cmp xs) (rises-in_order xs)
 
   -- where an item stands in a list that rises, its first item is not above it
-  first_least : (x : X) (ys : List X) (y : X) → AllByRecursion (λ z. is_lt (cmp z y) ≡ false) ys → (n : ℕ) → tally (eq_by_cmp cmp x) (y ∷ ys) ≡ 1 + n → is_lt (cmp x y) ≡ false
+  first_least : (x : X) (ys : List X) (y : X) → AllByRecursion (λ z. is_lt (cmp z y) ≡ false) ys → (n : ℕ) → tally (eq_by_cmp cmp x) (y ∷ ys) ≡ 1 + n
+      → is_lt (cmp x y) ≡ false
   first_least x ys y all n h =
       elim (eq_by_cmp cmp x y) as (λ b. eq_by_cmp cmp x y ≡ b → is_lt (cmp x y) ≡ false) [
         | true ↦ λ e. tied (cmp x y) e
@@ -150,10 +153,14 @@ module _ {X : Type 0} {cmp : X → X → Ordering} (o : IsKeyOrder cmp) where
   same_risen [] (y ∷ ys) g h e = absurd (not_zero (cond (eq_by_cmp cmp y y) 1 0) _ (ap (λ b. cond b 1 0) (own_key o y)) (sym (e (eq_by_cmp cmp y))))
   same_risen (x ∷ xs) [] g h e = absurd (not_zero (cond (eq_by_cmp cmp x x) 1 0) _ (ap (λ b. cond b 1 0) (own_key o x)) (e (eq_by_cmp cmp x)))
   same_risen (x ∷ xs) (y ∷ ys) g h e =
-      let low : is_lt (cmp x y) ≡ false = first_least x ys y h.0 (tally (eq_by_cmp cmp x) xs) (sym (e (eq_by_cmp cmp x)) ∙ ap (λ b. cond b 1 0 + tally (eq_by_cmp cmp x) xs) (own_key o x)) in
-      let high : is_lt (cmp y x) ≡ false = first_least y xs x g.0 (tally (eq_by_cmp cmp y) ys) (e (eq_by_cmp cmp y) ∙ ap (λ b. cond b 1 0 + tally (eq_by_cmp cmp y) ys) (own_key o y)) in
+      let low : is_lt (cmp x y) ≡ false =
+      first_least x ys y h.0 (tally (eq_by_cmp cmp x) xs)
+      (sym (e (eq_by_cmp cmp x)) ∙ ap (λ b. cond b 1 0 + tally (eq_by_cmp cmp x) xs) (own_key o x)) in
+      let high : is_lt (cmp y x) ≡ false =
+      first_least y xs x g.0 (tally (eq_by_cmp cmp y) ys) (e (eq_by_cmp cmp y) ∙ ap (λ b. cond b 1 0 + tally (eq_by_cmp cmp y) ys) (own_key o y)) in
       let same : x ≡ y = o.exact x y (neither (cmp x y) low (sym (ap is_lt (turned x y)) ∙ high)) in
-      let rest : xs ≡ ys = same_risen xs ys g.1 h.1 (λ p. same_rest (cond (p x) 1 0) (tally p xs) (tally p ys) (e p ∙ ap (λ z. cond (p z) 1 0 + tally p ys) (sym same))) in
+      let rest : xs ≡ ys = same_risen xs ys g.1 h.1
+      (λ p. same_rest (cond (p x) 1 0) (tally p xs) (tally p ys) (e p ∙ ap (λ z. cond (p z) 1 0 + tally p ys) (sym same))) in
       λ i. same i ∷ rest i
 
   rises_along : (xs : List X) → ((i j : ℕ) (d : X) → i ≤ j → j < length xs → is_lt (cmp (get_or xs j d) (get_or xs i d)) ≡ false) → Rises cmp xs

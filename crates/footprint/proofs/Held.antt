@@ -32,7 +32,8 @@ pub held_turned : (list other : List Held) → hold_one other list ≡ meets (ce
 held_turned list other = held_meets other list ∙ meets_turned (cells other) (cells list)
 
 -- the prints of two operations show whether they interfere
-pub prints_tell : (meta : Meta) (o p : Operation) (a b : Print) → cells a.writes ≡ op_writes meta o → cells a.reads ≡ op_reads o → cells b.writes ≡ op_writes meta p → cells b.reads ≡ op_reads p
+pub prints_tell : (meta : Meta) (o p : Operation) (a b : Print) → cells a.writes ≡ op_writes meta o → cells a.reads ≡ op_reads o
+    → cells b.writes ≡ op_writes meta p → cells b.reads ≡ op_reads p
     → cells_interfere (cells a.writes) (cells a.reads) (cells b.writes) (cells b.reads) ≡ interferes meta o p
 unfolding interferes
 prints_tell meta o p a b aw ar bw br = λ i. cells_interfere (aw i) (ar i) (bw i) (br i)

@@ -6,7 +6,8 @@ use Rattle.finite_maps.specs.Equal.{text_eq}
 use Rattle.finite_maps.proofs.EqualLaws.{and_first, and_second, and_both, nat_equality, text_equality}
 use Rattle.ecore_meta.specs.Meta.{Meta}
 use Rattle.model_state.specs.declared.step.Step.{Step}
-use Rattle.model_laws.specs.Cells.{Cell, OfKind, OfPlace, OfRank, OfAttr, OfRow, OfWhole, About, cell_eq, has, step_writes, step_reads, writes_all, reads_all, AreDisjoint}
+use Rattle.model_laws.specs.Cells.{Cell, OfKind, OfPlace, OfRank, OfAttr, OfRow, OfWhole, About, cell_eq, has, step_writes, step_reads, writes_all}
+use Rattle.model_laws.specs.Cells.{reads_all, AreDisjoint}
 use Rattle.finite_maps.proofs.Cases.{not_so, true_false, or_first, or_second}
 use Rattle.model_laws.proofs.Apart.{turned}
 use Rattle.model_laws.proofs.Exchange.{has_append, or_cases}
@@ -126,7 +127,8 @@ pub interference_has_a_cell : InterferenceHasACell
 unfolding interferes
 interference_has_a_cell meta o p h =
     or_cases (meets (op_writes meta o) (op_writes meta p)) (meets (op_writes meta o) (op_reads p) || meets (op_writes meta p) (op_reads o)) h
-    (λ both. let c = any_in (has (op_writes meta p)) (op_writes meta o) both in (c.0, inl (c.1, or_left (has (op_writes meta p) c.0) (has (op_reads p) c.0) c.2)))
+    (λ both. let c = any_in (has (op_writes meta p)) (op_writes meta o) both
+    in (c.0, inl (c.1, or_left (has (op_writes meta p) c.0) (has (op_reads p) c.0) c.2)))
     (λ rest. or_cases (meets (op_writes meta o) (op_reads p)) (meets (op_writes meta p) (op_reads o)) rest
     (λ read. let c = any_in (has (op_reads p)) (op_writes meta o) read in (c.0, inl (c.1, or_right (has (op_writes meta p) c.0) (has (op_reads p) c.0) c.2)))
     (λ read. let c = any_in (has (op_reads o)) (op_writes meta p) read in (c.0, inr (c.1, or_right (has (op_writes meta o) c.0) (has (op_reads o) c.0) c.2))))
@@ -147,7 +149,8 @@ interference_is_symmetric meta o p =
 -- ---- runs of several operations
 writes_append : (meta : Meta) (ss ts : List Step) → writes_all meta (ss ++ ts) ≡ writes_all meta ss ++ writes_all meta ts
 writes_append meta [] ts = refl
-writes_append meta (s ∷ ss) ts = ap (λ xs. step_writes meta s ++ xs) (writes_append meta ss ts) ∙ sym (joined (step_writes meta s) (writes_all meta ss) (writes_all meta ts))
+writes_append meta (s ∷ ss) ts =
+    ap (λ xs. step_writes meta s ++ xs) (writes_append meta ss ts) ∙ sym (joined (step_writes meta s) (writes_all meta ss) (writes_all meta ts))
   where
     joined : (xs ys zs : List Cell) → (xs ++ ys) ++ zs ≡ xs ++ (ys ++ zs)
     joined [] ys zs = refl
@@ -162,7 +165,12 @@ reads_append (s ∷ ss) ts = ap (λ xs. step_reads s ++ xs) (reads_append ss ts)
     joined (x ∷ xs) ys zs = ap (λ l. x ∷ l) (joined xs ys zs)
 
 apart_none : (meta : Meta) (qs : List Step) → AreDisjoint meta [] qs
-apart_none meta qs = record { written = λ c h. absurd (true_false false h refl); first_read = λ c h. refl; second_read = λ c h. absurd (true_false false h refl) }
+apart_none meta qs = record {
+  written = λ c h. absurd (true_false false h refl);
+  first_read = λ c h. refl;
+  second_read =
+      λ c h. absurd (true_false false h refl);
+}
 
 -- what is disjoint from two runs is disjoint from both in turn
 apart_more : (meta : Meta) (ss ts qs : List Step) → AreDisjoint meta ss qs → AreDisjoint meta ts qs → AreDisjoint meta (ss ++ ts) qs
@@ -172,8 +180,10 @@ apart_more meta ss ts qs k l = record {
   second_read = λ c h. either c h (k.second_read c) (l.second_read c);
 }
   where
-    either : (c : Cell) {G : Type 0} → has (writes_all meta (ss ++ ts)) c ≡ true → (has (writes_all meta ss) c ≡ true → G) → (has (writes_all meta ts) c ≡ true → G) → G
-    either c h = or_cases (has (writes_all meta ss) c) (has (writes_all meta ts) c) (sym (has_append (writes_all meta ss) (writes_all meta ts) c) ∙ (ap (λ xs. has xs c) (sym (writes_append meta ss ts)) ∙ h))
+    either : (c : Cell) {G : Type 0} → has (writes_all meta (ss ++ ts)) c ≡ true → (has (writes_all meta ss) c ≡ true → G)
+        → (has (writes_all meta ts) c ≡ true → G) → G
+    either c h = or_cases (has (writes_all meta ss) c) (has (writes_all meta ts) c)
+        (sym (has_append (writes_all meta ss) (writes_all meta ts) c) ∙ (ap (λ xs. has xs c) (sym (writes_append meta ss ts)) ∙ h))
 
 free_apart : (meta : Meta) (o : Operation) (ps : List Operation) → Free meta o ps → AreDisjoint meta (steps_all ps) (steps_of o)
 free_apart meta o [] free = apart_none meta (steps_of o)

@@ -1,5 +1,6 @@
 -- The prints of operations, by their places.
-use Rattle.std.proofs.Common.{◌≡◌, ℕ, zero, suc, ◌+◌, ◌<◌, ◌≤◌, List, [], ◌∷◌, ◌++◌, refl, sym, ap, ◌∙◌, drop, length, get_or, arith, append_assoc, append-nil, drop-cons}
+use Rattle.std.proofs.Common.{◌≡◌, ℕ, zero, suc, ◌+◌, ◌<◌, ◌≤◌, List, [], ◌∷◌, ◌++◌, refl, sym, ap, ◌∙◌, drop, length, get_or, arith, append_assoc}
+use Rattle.std.proofs.Common.{append-nil, drop-cons}
 use Rattle.std.proofs.lemmas.List.{map-append}
 use Rattle.ecore_meta.specs.Meta.{Meta}
 use Rattle.model_state.specs.declared.operation.Operation.{Operation}
@@ -34,7 +35,8 @@ rest_same : (x y : List Cell × List Cell) (xs ys : List (List Cell × List Cell
 rest_same x y xs ys h = cc
 
 -- the print at a place is that of the operation there
-pub print_at : (meta : Meta) (prints : List Print) (ops : List Operation) (i : ℕ) (p : Print) (o : Operation) → shown prints ≡ printed meta ops → i < length ops → p ≡ get_or prints i p → o ≡ get_or ops i o
+pub print_at : (meta : Meta) (prints : List Print) (ops : List Operation) (i : ℕ) (p : Print) (o : Operation) → shown prints ≡ printed meta ops
+    → i < length ops → p ≡ get_or prints i p → o ≡ get_or ops i o
     → (cells p.writes ≡ op_writes meta o) × (cells p.reads ≡ op_reads o)
 unfolding shown printed
 print_at meta prints [] i p o h low is at = absurd (omega (arith, low))
@@ -43,10 +45,12 @@ print_at meta (r ∷ prints) (q ∷ ops) zero p o h low is at =
     let f = first_same (cells r.writes, cells r.reads) (op_writes meta q, op_reads q) (shown prints) (printed meta ops) h in
     (ap (λ (x : Print). cells x.writes) is ∙ f.0 ∙ ap (op_writes meta) (sym at), ap (λ (x : Print). cells x.reads) is ∙ f.1 ∙ ap op_reads (sym at))
 print_at meta (r ∷ prints) (q ∷ ops) (suc i) p o h low is at =
-    print_at meta prints ops i p o (rest_same (cells r.writes, cells r.reads) (op_writes meta q, op_reads q) (shown prints) (printed meta ops) h) (omega (arith, low)) is at
+    print_at meta prints ops i p o (rest_same (cells r.writes, cells r.reads) (op_writes meta q, op_reads q) (shown prints) (printed meta ops) h)
+    (omega (arith, low)) is at
 
 -- the prints at two places show whether the operations there interfere
-pub places_tell : (meta : Meta) (prints : List Print) (ops : List Operation) (i j : ℕ) (p q : Print) (a b : Operation) → shown prints ≡ printed meta ops → i < length ops → j < length ops
+pub places_tell : (meta : Meta) (prints : List Print) (ops : List Operation) (i j : ℕ) (p q : Print) (a b : Operation)
+    → shown prints ≡ printed meta ops → i < length ops → j < length ops
     → p ≡ get_or prints i p → q ≡ get_or prints j q → a ≡ get_or ops i a → b ≡ get_or ops j b
     → cells_interfere (cells p.writes) (cells p.reads) (cells q.writes) (cells q.reads) ≡ interferes meta a b
 places_tell meta prints ops i j p q a b h low high p_is q_is a_is b_is =
@@ -61,7 +65,9 @@ drop_past [] (suc n) h = refl
 drop_past (x ∷ xs) zero h = absurd (omega (arith, h))
 drop_past (x ∷ xs) (suc n) h = drop_past xs n (omega (arith, h))
 
-pub prints_turn : (meta : Meta) (ops : List Operation) (i : ℕ) (found made : List Print) (o : Operation) (p : Print) (whole : List (List Cell × List Cell)) → i < length ops → o ≡ get_or ops i o → cells p.writes ≡ op_writes meta o → cells p.reads ≡ op_reads o → made ≡ found ++ p ∷ []
+pub prints_turn : (meta : Meta) (ops : List Operation) (i : ℕ) (found made : List Print) (o : Operation) (p : Print)
+    (whole : List (List Cell × List Cell)) → i < length ops → o ≡ get_or ops i o → cells p.writes ≡ op_writes meta o → cells p.reads ≡ op_reads o
+    → made ≡ found ++ p ∷ []
     → shown found ++ printed meta (drop i ops) ≡ whole → shown made ++ printed meta (drop (i + 1) ops) ≡ whole
 unfolding printed
 prints_turn meta ops i found made o p whole low at w r out h =
@@ -74,21 +80,25 @@ prints_turn meta ops i found made o p whole low at w r out h =
     ∙ ap (λ l. shown found ++ printed meta l) (sym next)
     ∙ h
 
-pub prints_end : (meta : Meta) (ops : List Operation) (i : ℕ) (found : List Print) (whole : List (List Cell × List Cell)) → length ops ≤ i → shown found ++ printed meta (drop i ops) ≡ whole → shown found ≡ whole
+pub prints_end : (meta : Meta) (ops : List Operation) (i : ℕ) (found : List Print) (whole : List (List Cell × List Cell)) → length ops ≤ i
+    → shown found ++ printed meta (drop i ops) ≡ whole → shown found ≡ whole
 unfolding printed
 prints_end meta ops i found whole high h = sym (append-nil (shown found)) ∙ ap (λ l. shown found ++ printed meta l) (sym (drop_past ops i high)) ∙ h
 
-pub prints_begin : (meta : Meta) (ops : List Operation) (first made : List Print) → first ≡ [] → shown made ≡ shown first ++ printed meta ops → shown made ≡ printed meta ops
+pub prints_begin : (meta : Meta) (ops : List Operation) (first made : List Print) → first ≡ [] → shown made ≡ shown first ++ printed meta ops
+    → shown made ≡ printed meta ops
 unfolding shown
 prints_begin meta ops first made h is = is ∙ ap (λ l. shown l ++ printed meta ops) h
 
 -- the prints of two lists, one after the other
-pub both_printed : (meta : Meta) (ts ms : List Operation) (first made : List Print) → shown first ≡ printed meta ts → shown made ≡ shown first ++ printed meta ms → shown made ≡ printed meta (ts ++ ms)
+pub both_printed : (meta : Meta) (ts ms : List Operation) (first made : List Print) → shown first ≡ printed meta ts
+    → shown made ≡ shown first ++ printed meta ms → shown made ≡ printed meta (ts ++ ms)
 unfolding printed
 both_printed meta ts ms first made h is = is ∙ ap (λ l. l ++ printed meta ms) h ∙ sym (map-append (λ o. (op_writes meta o, op_reads o)) ts ms)
 
 -- the prints of an operation of one list and of one of another show whether they interfere
-pub pair_tells : (meta : Meta) (left right : List Print) (ts ms : List Operation) (i k : ℕ) (p q : Print) (a b : Operation) → shown left ≡ printed meta ts → shown right ≡ printed meta ms → i < length ts → k < length ms
+pub pair_tells : (meta : Meta) (left right : List Print) (ts ms : List Operation) (i k : ℕ) (p q : Print) (a b : Operation)
+    → shown left ≡ printed meta ts → shown right ≡ printed meta ms → i < length ts → k < length ms
     → p ≡ get_or left i p → q ≡ get_or right k q → a ≡ get_or ts i a → b ≡ get_or ms k b
     → cells_interfere (cells p.writes) (cells p.reads) (cells q.writes) (cells q.reads) ≡ interferes meta a b
 pair_tells meta left right ts ms i k p q a b h g low high p_is q_is a_is b_is =

@@ -26,7 +26,8 @@ one_end meta m p n k h g = same (sym h ∙ g)
     same e = cc
 
 -- ---- runs
-fold_cut : (meta : Meta) (m k : State) (ss ts : List Step) → fold meta m (ss ++ ts) ≡ Some k → (n : State) × (fold meta m ss ≡ Some n) × (fold meta n ts ≡ Some k)
+fold_cut : (meta : Meta) (m k : State) (ss ts : List Step) → fold meta m (ss ++ ts) ≡ Some k
+    → (n : State) × (fold meta m ss ≡ Some n) × (fold meta n ts ≡ Some k)
 fold_cut meta m k [] ts h = (m, refl, h)
 fold_cut meta m k (s ∷ ss) ts h =
     let p = fold_first meta m k s (ss ++ ts) h in
@@ -65,10 +66,12 @@ operations_exchange meta sound o p m k good free h = packages_exchange meta soun
 alone : (meta : Meta) (m n : State) (o : Operation) → fold meta m (steps_of o) ≡ Some n → Leads meta m (o ∷ []) n
 alone meta m n o h = ap (fold meta m) (append-nil (steps_of o)) ∙ h
 
-pub turned_run : (meta : Meta) (o p : Operation) (m n k : State) → fold meta m (steps_of p) ≡ Some n → fold meta n (steps_of o) ≡ Some k → Leads meta m (p ∷ o ∷ []) k
+pub turned_run : (meta : Meta) (o p : Operation) (m n k : State) → fold meta m (steps_of p) ≡ Some n → fold meta n (steps_of o) ≡ Some k
+    → Leads meta m (p ∷ o ∷ []) k
 turned_run meta o p m n k one two = join meta m n k (p ∷ []) (o ∷ []) (alone meta m n p one) (alone meta n k o two)
 
-pub second_first : (meta : Meta) → Sound meta → (o p : Operation) (m n k : State) → Good meta m → interferes meta o p ≡ false → (x : State) × Leads meta m (o ∷ p ∷ []) x → fold meta m (steps_of p) ≡ Some n → fold meta n (steps_of o) ≡ Some k → Leads meta m (o ∷ p ∷ []) k
+pub second_first : (meta : Meta) → Sound meta → (o p : Operation) (m n k : State) → Good meta m → interferes meta o p ≡ false
+    → (x : State) × Leads meta m (o ∷ p ∷ []) x → fold meta m (steps_of p) ≡ Some n → fold meta n (steps_of o) ≡ Some k → Leads meta m (o ∷ p ∷ []) k
 second_first meta sound o p m n k good free x one two =
     let turned = operations_exchange meta sound o p m x.0 good free x.1 in
     subst (λ y. Leads meta m (o ∷ p ∷ []) y) (one_end meta m (p ∷ o ∷ []) x.0 k turned (turned_run meta o p m n k one two)) x.1

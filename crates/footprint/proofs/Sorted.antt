@@ -1,5 +1,6 @@
 -- Cells in order: the order is total and ties equal cells alone, and a search by it finds what is there.
-use Rattle.std.proofs.Common.{◌≡◌, ℕ, zero, suc, ◌+◌, ◌<◌, ◌≤◌, Bool, true, false, List, [], ◌∷◌, ◌++◌, ◌&&◌, ◌||◌, refl, sym, ap, subst, ◌∙◌, length, get_or, arith, inl, inr, ◌⊎◌}
+use Rattle.std.proofs.Common.{◌≡◌, ℕ, zero, suc, ◌+◌, ◌<◌, ◌≤◌, Bool, true, false, List, [], ◌∷◌, ◌++◌, ◌&&◌, ◌||◌, refl, sym, ap, subst, ◌∙◌, length}
+use Rattle.std.proofs.Common.{get_or, arith, inl, inr, ◌⊎◌}
 use Rattle.std.specs.Prelude.{None, Some, slice_get, nat_eq, Result, Ok, Err, is_ok}
 use Rattle.std.specs.List.{list_any, range_with_len}
 use Rattle.std.specs.List.Sorted.{IsPermutation, IsSearchInRange, IsBinarySearchResult, IsNonDecreasingBy}
@@ -40,11 +41,14 @@ last_id (Row a f b) = b
 last_id c = []
 
 key_cmp : Held → Held → Ordering
-key_cmp c d = ordering_then (nat_cmp (sort c) (sort d)) (ordering_then (slice_cmp nat_cmp (first_id c) (first_id d)) (ordering_then (nat_cmp (feature c) (feature d)) (slice_cmp nat_cmp (last_id c) (last_id d))))
+key_cmp c d = ordering_then (nat_cmp (sort c) (sort d))
+    (ordering_then (slice_cmp nat_cmp (first_id c) (first_id d))
+    (ordering_then (nat_cmp (feature c) (feature d)) (slice_cmp nat_cmp (last_id c) (last_id d))))
 
 key_total : IsTotalOrder key_cmp
 unfolding key_cmp
-key_total = then_total (on_total sort nat_cmp_total) (then_total (on_total first_id nat_list_cmp_total) (then_total (on_total feature nat_cmp_total) (on_total last_id nat_list_cmp_total)))
+key_total = then_total (on_total sort nat_cmp_total)
+    (then_total (on_total first_id nat_list_cmp_total) (then_total (on_total feature nat_cmp_total) (on_total last_id nat_list_cmp_total)))
 
 then_none : (o : Ordering) → ordering_then o Equal ≡ o
 then_none Less = refl
@@ -106,7 +110,8 @@ below_or zero (suc k) = inl (omega arith)
 below_or (suc j) zero = inr (omega arith)
 below_or (suc j) (suc k) = elim (below_or j k) [ inl low ↦ inl (omega (arith, low)) | inr high ↦ inr (omega (arith, high)) ]
 
-answer_tells : (ord : ℕ → Ordering) (order : List ℕ) (r : Result ℕ ℕ) → IsSearchInRange r (length order) → IsBinarySearchResult ord order r → IsNonDecreasingBy (λ y. ordering_index (ord y)) order → is_ok r ≡ list_any (λ i. is_eq (ord i)) order
+answer_tells : (ord : ℕ → Ordering) (order : List ℕ) (r : Result ℕ ℕ) → IsSearchInRange r (length order) → IsBinarySearchResult ord order r
+    → IsNonDecreasingBy (λ y. ordering_index (ord y)) order → is_ok r ≡ list_any (λ i. is_eq (ord i)) order
 answer_tells ord order (Ok k) bound at up = sym (any_at (λ i. is_eq (ord i)) order k bound (ap is_eq (at 0)))
 answer_tells ord order (Err k) bound part up =
     sym (none_at (λ i. is_eq (ord i)) order (λ j low. elim (below_or j k) [
@@ -115,21 +120,27 @@ answer_tells ord order (Err k) bound part up =
     ]))
 
 tied_at : (list : List Held) (c : Held) (i : ℕ) → is_eq (option_cmp held_cmp (slice_get list i) (Some c)) ≡ passes_at (λ h. cell_eq (seen c) (seen h)) list i
-tied_at list c i = elim (slice_get list i) as (λ o. is_eq (option_cmp held_cmp o (Some c)) ≡ option_map_or (λ h. cell_eq (seen c) (seen h)) o false) [ None ↦ refl | Some h ↦ sym (ties c h) ]
+tied_at list c i = elim (slice_get list i) as (λ o.
+    is_eq (option_cmp held_cmp o (Some c)) ≡ option_map_or (λ h. cell_eq (seen c) (seen h)) o false) [ None ↦ refl | Some h ↦ sym (ties c h) ]
 
 -- a search by the order of the cells finds whether one is held
-pub search_tells : (list : List Held) (order : List ℕ) (c : Held) (r : Result ℕ ℕ) → 0 < length order → IsOrder list order → IsSearchInRange r (length order) → IsBinarySearchResult (λ i. option_cmp held_cmp (slice_get list i) (Some c)) order r → is_ok r ≡ holds list (seen c)
+pub search_tells : (list : List Held) (order : List ℕ) (c : Held) (r : Result ℕ ℕ) → 0 < length order → IsOrder list order
+    → IsSearchInRange r (length order) → IsBinarySearchResult (λ i. option_cmp held_cmp (slice_get list i) (Some c)) order r
+    → is_ok r ≡ holds list (seen c)
 search_tells list order c r some is bound answer =
-    answer_tells (λ i. option_cmp held_cmp (slice_get list i) (Some c)) order r bound answer (searchable_from_sorted (options_total held_total) (slice_get list) order (Some c) (is some).0)
+    answer_tells (λ i. option_cmp held_cmp (slice_get list i) (Some c)) order r bound answer
+    (searchable_from_sorted (options_total held_total) (slice_get list) order (Some c) (is some).0)
     ∙ ap (λ test. list_any test order) (λ t i. tied_at list c i t)
     ∙ (is some).1 (λ h. cell_eq (seen c) (seen h))
 
 -- ---- all places
-shifted : (test : Held → Bool) (h : Held) (list : List Held) (a n : ℕ) → list_any (passes_at test (h ∷ list)) (range_with_len (suc a) n) ≡ list_any (passes_at test list) (range_with_len a n)
+shifted : (test : Held → Bool) (h : Held) (list : List Held) (a n : ℕ)
+    → list_any (passes_at test (h ∷ list)) (range_with_len (suc a) n) ≡ list_any (passes_at test list) (range_with_len a n)
 shifted test h list a zero = refl
 shifted test h list a (suc n) =
     let next : suc a + 1 ≡ suc (a + 1) = omega arith in
-    ap (λ m. passes_at test list a || list_any (passes_at test (h ∷ list)) (range_with_len m n)) next ∙ ap (λ b. passes_at test list a || b) (shifted test h list (a + 1) n)
+    ap (λ m. passes_at test list a || list_any (passes_at test (h ∷ list)) (range_with_len m n)) next
+    ∙ ap (λ b. passes_at test list a || b) (shifted test h list (a + 1) n)
 
 all_places : (test : Held → Bool) (list : List Held) → list_any (passes_at test list) (range_with_len 0 (length list)) ≡ list_any test list
 all_places test [] = refl
@@ -147,5 +158,7 @@ next_place n =
     ap (range_with_len 0) one ∙ range_more 0 n n (omega arith)
 
 -- the places in another order hold the cells
-pub places_moved : (list : List Held) (places order : List ℕ) → places ≡ range_with_len 0 (length list) → IsPermutation places order → (test : Held → Bool) → list_any (passes_at test list) order ≡ list_any test list
-places_moved list places order is moved test = sym (list_any-IsPermutation (passes_at test list) places order moved) ∙ ap (list_any (passes_at test list)) is ∙ all_places test list
+pub places_moved : (list : List Held) (places order : List ℕ) → places ≡ range_with_len 0 (length list) → IsPermutation places order
+    → (test : Held → Bool) → list_any (passes_at test list) order ≡ list_any test list
+places_moved list places order is moved test =
+    sym (list_any-IsPermutation (passes_at test list) places order moved) ∙ ap (list_any (passes_at test list)) is ∙ all_places test list

@@ -38,4 +38,5 @@ passes_at test list i = option_map_or test (slice_get list i) false
 
 -- Where there are places, they rise by their cells. A test passes at one of them exactly where it passes a cell of the list.
 abbrev pub IsOrder : List Held → List ℕ → Type 0
-IsOrder list order = 0 < length order → IsSortedBy (λ i j. is_lt (place_cmp list i j)) order × ((test : Held → Bool) → list_any (passes_at test list) order ≡ list_any test list)
+IsOrder list order = 0 < length order
+    → IsSortedBy (λ i j. is_lt (place_cmp list i j)) order × ((test : Held → Bool) → list_any (passes_at test list) order ≡ list_any test list)

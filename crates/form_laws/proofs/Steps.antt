@@ -112,7 +112,8 @@ step_rows : List (Row IsStep step_fields)
 step_rows = put_row ∷ ins_row ∷ del_row ∷ shift_row ∷ link_row ∷ unlink_row ∷ rerank_row_row ∷ new_row ∷ gone_row ∷ move_row ∷ rerank_place_row ∷ []
 
 pub step_exact : Exact step_codes step_fields
-unfolding step_at step_fields step_rows put_at ins_at del_at shift_at link_at unlink_at rerank_row_at new_at gone_at move_at rerank_place_at put_row ins_row del_row shift_row link_row unlink_row rerank_row_row new_row gone_row move_row rerank_place_row
+unfolding step_at step_fields step_rows put_at ins_at del_at shift_at link_at unlink_at rerank_row_at new_at gone_at move_at rerank_place_at put_row
+    ins_row del_row shift_row link_row unlink_row rerank_row_row new_row gone_row move_row rerank_place_row
 step_exact = record {
   sample = RerankPlace (codes "a") 0 0;
   has = (refl, (omega arith, omega arith));

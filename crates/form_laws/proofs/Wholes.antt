@@ -1,5 +1,6 @@
 -- All of some bytes as one value: their faults.
-use Rattle.std.proofs.Common.{◌≡◌, ℕ, ◌+◌, List, [], ◌∷◌, ◌++◌, length, take, true, cond, nat_lt, Result, Ok, Err, refl, sym, ap, subst, ◌∙◌, append-nil, length-append, arith}
+use Rattle.std.proofs.Common.{◌≡◌, ℕ, ◌+◌, List, [], ◌∷◌, ◌++◌, length, take, true, cond, nat_lt, Result, Ok, Err, refl, sym, ap, subst, ◌∙◌}
+use Rattle.std.proofs.Common.{append-nil, length-append, arith}
 use Rattle.std.proofs.lemmas.Bool.{le-leb}
 use Rattle.std.proofs.Math.Seq.{take-append_seam}
 use Rattle.byte_form.specs.declared.reader.ReadFault.TheVariants as read_faults

@@ -12,7 +12,8 @@ use Rattle.model_state.specs.declared.operation.Operation.{Operation}
 use Rattle.model_state.specs.declared.operation.Operation.TheVariants.{Simple, Composite}
 use Rattle.op_form.specs.Packages.{kind_byte}
 use Rattle.op_form.specs.declared.event.Event.{Event}
-use Rattle.op_form.specs.declared.event.Event.TheVariants.{Init, Checkout, Edit, Begin, End, Undo, Discard, Tidy, Commit, Branch, Tag, Update, Merge, Drop, Evolve, Upgrade, Signed}
+use Rattle.op_form.specs.declared.event.Event.TheVariants.{Init, Checkout, Edit, Begin, End, Undo, Discard, Tidy, Commit, Branch, Tag, Update, Merge}
+use Rattle.op_form.specs.declared.event.Event.TheVariants.{Drop, Evolve, Upgrade, Signed}
 use Rattle.form_laws.specs.Fields.{Field, Byte, Number, LongNumber, Text}
 
 -- of a number of four bytes

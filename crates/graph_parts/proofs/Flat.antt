@@ -55,7 +55,8 @@ module _ {X : Type 0} where
   pub feature_found : (es : List (ℕ × X)) (q : ℕ) → at_feature es q ≡ option_map (λ (e : ℕ × X). e.1) (find (λ (e : ℕ × X). nat_eq e.0 q) es)
   feature_found [] q = refl
   feature_found (e ∷ es) q =
-      elim (nat_eq e.0 q) as (λ b. cond b (Some e.1) (at_feature es q) ≡ option_map (λ (d : ℕ × X). d.1) (cond b (Some e) (find (λ (d : ℕ × X). nat_eq d.0 q) es))) [
+      elim (nat_eq e.0 q) as (λ b.
+      cond b (Some e.1) (at_feature es q) ≡ option_map (λ (d : ℕ × X). d.1) (cond b (Some e) (find (λ (d : ℕ × X). nat_eq d.0 q) es))) [
         | true ↦ refl
         | false ↦ feature_found es q
       ]
@@ -78,20 +79,24 @@ module _ {X : Type 0} where
   at-others : (f q : ℕ) (es : List (ℕ × X)) → at_feature (others f es) q ≡ cond (nat_eq f q) None (at_feature es q)
   at-others f q [] = none (nat_eq f q)
   at-others f q (e ∷ es) =
-      elim (nat_eq e.0 f) as (λ b. nat_eq e.0 f ≡ b → at_feature (cond (not b) (e ∷ others f es) (others f es)) q ≡ cond (nat_eq f q) None (cond (nat_eq e.0 q) (Some e.1) (at_feature es q))) [
+      elim (nat_eq e.0 f) as (λ b. nat_eq e.0 f ≡ b
+      → at_feature (cond (not b) (e ∷ others f es) (others f es)) q ≡ cond (nat_eq f q) None (cond (nat_eq e.0 q) (Some e.1) (at_feature es q))) [
         | true ↦ λ here.
             at-others f q es
-            ∙ subst (λ z. cond (nat_eq f q) None (at_feature es q) ≡ cond (nat_eq f q) None (cond (nat_eq z q) (Some e.1) (at_feature es q))) (sym (nat_equality.exact e.0 f here)) (gone (nat_eq f q) e.1 (at_feature es q))
+            ∙ subst (λ z. cond (nat_eq f q) None (at_feature es q) ≡ cond (nat_eq f q) None (cond (nat_eq z q) (Some e.1) (at_feature es q)))
+            (sym (nat_equality.exact e.0 f here)) (gone (nat_eq f q) e.1 (at_feature es q))
         | false ↦ λ other.
             ap (cond (nat_eq e.0 q) (Some e.1)) (at-others f q es)
-            ∙ elim (nat_eq f q) as (λ b. nat_eq f q ≡ b → cond (nat_eq e.0 q) (Some e.1) (cond b None (at_feature es q)) ≡ cond b None (cond (nat_eq e.0 q) (Some e.1) (at_feature es q))) [
+            ∙ elim (nat_eq f q) as (λ b. nat_eq f q ≡ b
+            → cond (nat_eq e.0 q) (Some e.1) (cond b None (at_feature es q)) ≡ cond b None (cond (nat_eq e.0 q) (Some e.1) (at_feature es q))) [
               | true ↦ λ same. ap (λ b. cond b (Some e.1) None) (differ f q e.0 same other)
               | false ↦ λ _. refl
             ] refl
       ] refl
 
   -- ---- a feature that is new
-  swap : (f q : ℕ) (e : ℕ × X) (v : X) (o : Option X) → nat_eq e.0 f ≡ false → cond (nat_eq e.0 q) (Some e.1) (cond (nat_eq f q) (Some v) o) ≡ cond (nat_eq f q) (Some v) (cond (nat_eq e.0 q) (Some e.1) o)
+  swap : (f q : ℕ) (e : ℕ × X) (v : X) (o : Option X) → nat_eq e.0 f ≡ false
+      → cond (nat_eq e.0 q) (Some e.1) (cond (nat_eq f q) (Some v) o) ≡ cond (nat_eq f q) (Some v) (cond (nat_eq e.0 q) (Some e.1) o)
   swap f q e v o other =
       elim (nat_eq f q) as (λ b. nat_eq f q ≡ b → cond (nat_eq e.0 q) (Some e.1) (cond b (Some v) o) ≡ cond b (Some v) (cond (nat_eq e.0 q) (Some e.1) o)) [
         | true ↦ λ same. ap (λ b. cond b (Some e.1) (Some v)) (differ f q e.0 same other)
@@ -101,7 +106,9 @@ module _ {X : Type 0} where
   at-more : (es : List (ℕ × X)) (f q : ℕ) (v : X) → at_feature es f ≡ None → at_feature (es ++ (f, v) ∷ []) q ≡ cond (nat_eq f q) (Some v) (at_feature es q)
   at-more [] f q v new = refl
   at-more (e ∷ es) f q v new =
-      elim (nat_eq e.0 f) as (λ b. nat_eq e.0 f ≡ b → cond b (Some e.1) (at_feature es f) ≡ None → cond (nat_eq e.0 q) (Some e.1) (at_feature (es ++ (f, v) ∷ []) q) ≡ cond (nat_eq f q) (Some v) (cond (nat_eq e.0 q) (Some e.1) (at_feature es q))) [
+      elim (nat_eq e.0 f) as (λ b. nat_eq e.0 f ≡ b → cond b (Some e.1) (at_feature es f) ≡ None
+      → cond (nat_eq e.0 q) (Some e.1) (at_feature (es ++ (f, v) ∷ []) q) ≡ cond (nat_eq f q) (Some v)
+      (cond (nat_eq e.0 q) (Some e.1) (at_feature es q))) [
         | true ↦ λ _ new. absurd (some_none (Some e.1) e.1 refl new)
         | false ↦ λ other new. ap (cond (nat_eq e.0 q) (Some e.1)) (at-more es f q v new) ∙ swap f q e v (at_feature es q) other
       ] refl new
@@ -114,18 +121,22 @@ module _ {X : Type 0} where
         | false ↦ λ at. cc
       ] is
 
-  same_first : (f q : ℕ) (e : ℕ × X) (v : X) (o : Option X) → nat_eq e.0 f ≡ true → cond (nat_eq f q) (Some v) o ≡ cond (nat_eq f q) (Some v) (cond (nat_eq e.0 q) (Some e.1) o)
+  same_first : (f q : ℕ) (e : ℕ × X) (v : X) (o : Option X) → nat_eq e.0 f ≡ true
+      → cond (nat_eq f q) (Some v) o ≡ cond (nat_eq f q) (Some v) (cond (nat_eq e.0 q) (Some e.1) o)
   same_first f q e v o here =
       elim (nat_eq f q) as (λ b. nat_eq f q ≡ b → cond b (Some v) o ≡ cond b (Some v) (cond (nat_eq e.0 q) (Some e.1) o)) [
         | true ↦ λ _. refl
         | false ↦ λ no. ap (λ b. cond b (Some e.1) o) (sym (subst (λ z. nat_eq z q ≡ false) (sym (nat_equality.exact e.0 f here)) no))
       ] refl
 
-  at-set : (es : List (ℕ × X)) (f q : ℕ) (v w : X) → at_feature es f ≡ Some w → at_feature (slice_set es (position_or_len (λ (e : ℕ × X). nat_eq e.0 f) es) (f, v)) q ≡ cond (nat_eq f q) (Some v) (at_feature es q)
+  at-set : (es : List (ℕ × X)) (f q : ℕ) (v w : X) → at_feature es f ≡ Some w
+      → at_feature (slice_set es (position_or_len (λ (e : ℕ × X). nat_eq e.0 f) es) (f, v)) q ≡ cond (nat_eq f q) (Some v) (at_feature es q)
   at-set [] f q v w some = cc
   at-set (e ∷ es) f q v w some =
       let n = position_or_len (λ (e : ℕ × X). nat_eq e.0 f) es in
-      elim (nat_eq e.0 f) as (λ b. nat_eq e.0 f ≡ b → cond b (Some e.1) (at_feature es f) ≡ Some w → at_feature (slice_set (e ∷ es) (cond (not b) (1 + n) 0) (f, v)) q ≡ cond (nat_eq f q) (Some v) (cond (nat_eq e.0 q) (Some e.1) (at_feature es q))) [
+      elim (nat_eq e.0 f) as (λ b. nat_eq e.0 f ≡ b → cond b (Some e.1) (at_feature es f) ≡ Some w
+      → at_feature (slice_set (e ∷ es) (cond (not b) (1 + n) 0) (f, v)) q ≡ cond (nat_eq f q) (Some v)
+      (cond (nat_eq e.0 q) (Some e.1) (at_feature es q))) [
         | true ↦ λ here _. same_first f q e v (at_feature es q) here
         | false ↦ λ other some.
             ap (λ k. at_feature (slice_set (e ∷ es) k (f, v)) q) (one_more n)
@@ -133,17 +144,20 @@ module _ {X : Type 0} where
       ] refl some
 
   -- ---- the writes
-  pub flat_set : (f : ℕ) (v : X) (es : List (ℕ × X)) (i : ℕ) → position (λ (e : ℕ × X). nat_eq e.0 f) es ≡ Some i → flat (slice_set es i (f, v)) ≡ set (flat es) f (Some v)
+  pub flat_set : (f : ℕ) (v : X) (es : List (ℕ × X)) (i : ℕ) → position (λ (e : ℕ × X). nat_eq e.0 f) es ≡ Some i
+      → flat (slice_set es i (f, v)) ≡ set (flat es) f (Some v)
   flat_set f v es i is =
       let found = position_some (λ (e : ℕ × X). nat_eq e.0 f) es i is in
       let some : at_feature es f ≡ Some found.0.1 = feature_found es f ∙ ap (option_map (λ (e : ℕ × X). e.1)) found.3 in
       same nat_order _ _ (λ q.
       ap (λ k. get (flat (slice_set es k (f, v))) q) (sym (position_is (λ (e : ℕ × X). nat_eq e.0 f) es i is))
       ∙ get-flat (slice_set es (position_or_len (λ (e : ℕ × X). nat_eq e.0 f) es) (f, v)) q ∙ at-set es f q v found.0.1 some
-      ∙ ap (λ b. cond b (Some v) (at_feature es q)) (sym (nat_at q f)) ∙ ap (cond (eq_by_cmp nat_cmp q f) (Some v)) (sym (get-flat es q)) ∙ sym (get-set nat_order (flat es) f (Some v) q))
+      ∙ ap (λ b. cond b (Some v) (at_feature es q)) (sym (nat_at q f)) ∙ ap (cond (eq_by_cmp nat_cmp q f) (Some v)) (sym (get-flat es q))
+      ∙ sym (get-set nat_order (flat es) f (Some v) q))
 
   -- what stands at an index, found by its feature
-  pub written_at : (f : ℕ) (es : List (ℕ × X)) (i : ℕ) (w : ℕ × X) → w ≡ slice_index_or es i w → position (λ (e : ℕ × X). nat_eq e.0 f) es ≡ Some i → (get (flat es) f ≡ Some w.1) × ((v : X) → flat (slice_set es i (w.0, v)) ≡ set (flat es) f (Some v))
+  pub written_at : (f : ℕ) (es : List (ℕ × X)) (i : ℕ) (w : ℕ × X) → w ≡ slice_index_or es i w → position (λ (e : ℕ × X). nat_eq e.0 f) es ≡ Some i
+      → (get (flat es) f ≡ Some w.1) × ((v : X) → flat (slice_set es i (w.0, v)) ≡ set (flat es) f (Some v))
   written_at f es i w at is =
       let found = position_some (λ (e : ℕ × X). nat_eq e.0 f) es i is in
       let now : w ≡ found.0 = at ∙ index_is es i w found.0 found.1 in
@@ -158,12 +172,14 @@ module _ {X : Type 0} where
   pub flat_put : (f : ℕ) (v : X) (es : List (ℕ × X)) → position (λ (e : ℕ × X). nat_eq e.0 f) es ≡ None → flat (es ++ (f, v) ∷ []) ≡ set (flat es) f (Some v)
   flat_put f v es new = same nat_order _ _ (λ q.
       get-flat (es ++ (f, v) ∷ []) q ∙ at-more es f q v (feature_none es f new)
-      ∙ ap (λ b. cond b (Some v) (at_feature es q)) (sym (nat_at q f)) ∙ ap (cond (eq_by_cmp nat_cmp q f) (Some v)) (sym (get-flat es q)) ∙ sym (get-set nat_order (flat es) f (Some v) q))
+      ∙ ap (λ b. cond b (Some v) (at_feature es q)) (sym (nat_at q f)) ∙ ap (cond (eq_by_cmp nat_cmp q f) (Some v)) (sym (get-flat es q))
+      ∙ sym (get-set nat_order (flat es) f (Some v) q))
 
   pub flat_drop : (f : ℕ) (es : List (ℕ × X)) → flat (others f es) ≡ set (flat es) f None
   flat_drop f es = same nat_order _ _ (λ q.
       get-flat (others f es) q ∙ at-others f q es
-      ∙ ap (λ b. cond b None (at_feature es q)) (sym (nat_at q f)) ∙ ap (cond (eq_by_cmp nat_cmp q f) None) (sym (get-flat es q)) ∙ sym (get-set nat_order (flat es) f None q))
+      ∙ ap (λ b. cond b None (at_feature es q)) (sym (nat_at q f)) ∙ ap (cond (eq_by_cmp nat_cmp q f) None) (sym (get-flat es q))
+      ∙ sym (get-set nat_order (flat es) f None q))
 
   pub flat_empty : flat {X = X} [] ≡ empty
   flat_empty = same nat_order (flat []) empty (λ q. get-flat [] q ∙ sym (get-empty nat_cmp q))
@@ -174,4 +190,6 @@ module _ {X : Type 0} where
         | true ↦ λ _. refl
         | false ↦ λ some. let e = not_bare_some nat_order (flat {X = X} []) some in absurd (some_none (get (flat {X = X} []) e.0) e.1 e.2 (get-flat [] e.0))
       ] refl
-  flat_bare (e ∷ es) = not_so (nat_eq (length (e ∷ es)) 0) (λ h. some_length (length es) (nat_equality.exact (length (e ∷ es)) 0 h)) ∙ sym (some_not_bare nat_order (flat (e ∷ es)) e.0 e.1 (get-flat (e ∷ es) e.0 ∙ ap (λ b. cond b (Some e.1) (at_feature es e.0)) (nat_equality.own e.0)))
+  flat_bare (e ∷ es) = not_so (nat_eq (length (e ∷ es)) 0) (λ h. some_length (length es) (nat_equality.exact (length (e ∷ es)) 0 h))
+      ∙ sym (some_not_bare nat_order (flat (e ∷ es)) e.0 e.1
+      (get-flat (e ∷ es) e.0 ∙ ap (λ b. cond b (Some e.1) (at_feature es e.0)) (nat_equality.own e.0)))

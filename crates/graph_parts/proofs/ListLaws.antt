@@ -50,7 +50,8 @@ list_written t u f e v w is here =
     ∙ spread-set nat_order id_order list_key_order by_list list_joined (λ (g : Ranks). g) (flat t) f w e v
     here
 
-pub filled_written : (t u : List (ℕ × Ranks)) (f : ℕ) (w : Option Ranks) → AreFilled t → flat u ≡ set (flat t) f w → ((g : Ranks) → w ≡ Some g → is_bare g ≡ false) → AreFilled u
+pub filled_written : (t u : List (ℕ × Ranks)) (f : ℕ) (w : Option Ranks) → AreFilled t → flat u ≡ set (flat t) f w
+    → ((g : Ranks) → w ≡ Some g → is_bare g ≡ false) → AreFilled u
 filled_written t u f w filled is here q g found =
     by_cases (eq_by_cmp nat_cmp q f)
     (sym (get-set nat_order (flat t) f w q) ∙ ap (λ m. get m q) (sym is) ∙ found)
@@ -61,7 +62,8 @@ filled_written t u f w filled is here q g found =
 
 module _ (t u : List (ℕ × Ranks)) (f : ℕ) (e : IdBytes) where
   -- an element put in, or its rank written
-  pub list_put : (r : ℕ) → flat u ≡ set (flat t) f (Some (set (unwrap_or (get (flat t) f) empty) e (Some r))) → feature_lists u ≡ set (feature_lists t) (f, e) (Some r)
+  pub list_put : (r : ℕ) → flat u ≡ set (flat t) f (Some (set (unwrap_or (get (flat t) f) empty) e (Some r)))
+      → feature_lists u ≡ set (feature_lists t) (f, e) (Some r)
   list_put r is =
       let g : Ranks = unwrap_or (get (flat t) f) empty in
       list_written t u f e (Some r) (Some (set g e (Some r))) is
@@ -71,7 +73,8 @@ module _ (t u : List (ℕ × Ranks)) (f : ℕ) (e : IdBytes) where
   filled_put r filled is =
       let g : Ranks = unwrap_or (get (flat t) f) empty in
       filled_written t u f (Some (set g e (Some r))) filled is
-      (λ h same. subst (λ (x : Ranks). is_bare x ≡ false) (one_group (set g e (Some r)) h same) (some_not_bare id_order (set g e (Some r)) e r (get-set_same id_order g e (Some r))))
+      (λ h same. subst (λ (x : Ranks). is_bare x ≡ false) (one_group (set g e (Some r)) h same)
+      (some_not_bare id_order (set g e (Some r)) e r (get-set_same id_order g e (Some r))))
     where
       one_group : (g h : Ranks) → Some g ≡ Some h → g ≡ h
       one_group g h same = cc
@@ -91,7 +94,8 @@ module _ (t u : List (ℕ × Ranks)) (f : ℕ) (e : IdBytes) where
   in_without None i = elim (eq_by_cmp id_cmp i e) as (λ b. ◌≡◌ {A = Option ℕ} None (cond b None None)) [ true ↦ refl | false ↦ refl ]
   in_without (Some g) i = get-set id_order g e None i
 
-  pub list_dropped : flat u ≡ set (flat t) f (kept (option_map (λ (g : Ranks). set g e None) (get (flat t) f))) → feature_lists u ≡ set (feature_lists t) (f, e) None
+  pub list_dropped : flat u ≡ set (flat t) f (kept (option_map (λ (g : Ranks). set g e None) (get (flat t) f)))
+      → feature_lists u ≡ set (feature_lists t) (f, e) None
   list_dropped is =
       list_written t u f e None (kept (option_map (λ (g : Ranks). set g e None) (get (flat t) f))) is
       (λ i. in_kept (option_map (λ (g : Ranks). set g e None) (get (flat t) f)) i ∙ in_without (get (flat t) f) i)
@@ -141,7 +145,8 @@ lists_bare (x ∷ xs) filled =
     some_length x xs h = absurd (omega (arith, h))
 
 pub lists_none : feature_lists [] ≡ empty
-lists_none = same list_key_order (feature_lists []) empty (λ k. get_list [] k.0 k.1 ∙ ap (λ o. in_list o k.1) (get-flat [] k.0) ∙ sym (get-empty list_key_cmp k))
+lists_none = same list_key_order (feature_lists []) empty
+    (λ k. get_list [] k.0 k.1 ∙ ap (λ o. in_list o k.1) (get-flat [] k.0) ∙ sym (get-empty list_key_cmp k))
 
 pub list_alike : (t u : List (ℕ × Ranks)) → flat u ≡ flat t → feature_lists u ≡ feature_lists t
 list_alike t u is = ap (λ m. spread list_key_cmp by_list (λ (g : Ranks). g) m) is

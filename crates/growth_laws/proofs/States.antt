@@ -23,7 +23,8 @@ use Rattle.model_state.proofs.Orders.{id_order, row_order}
 use Rattle.model_state.proofs.StepTests.{place_equality}
 use Rattle.model_laws.proofs.Many.{within_none}
 use Rattle.growth_laws.proofs.Keeps.{Keeps}
-use Rattle.growth_laws.proofs.Kept.{Same, same_kind, same_upper, same_opposite, same_row_upper, same_child_upper, has_kept, same_had, all_fit, fits_kept, contains_kept, link_same, link_kept}
+use Rattle.growth_laws.proofs.Kept.{Same, same_kind, same_upper, same_opposite, same_row_upper, same_child_upper, has_kept, same_had, all_fit}
+use Rattle.growth_laws.proofs.Kept.{fits_kept, contains_kept, link_same, link_kept}
 
 -- an element that stands inside another stands in a feature of its class
 pub stood_has : (o : Meta) (kind : FinMap id_cmp ℕ) (c : Option ℕ) (a : IdBytes) (f : ℕ) (r : Option ℕ)

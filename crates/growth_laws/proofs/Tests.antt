@@ -16,13 +16,15 @@ use Rattle.model_state.specs.Keys.{IdBytes}
 use Rattle.model_state.specs.Lists.{values_of}
 use Rattle.model_state.specs.Typing.{is_attr, is_many, is_plain, is_unique, is_default, value_eq}
 use Rattle.model_state.specs.State.{State, written, place_eq, child_count, row_count}
-use Rattle.model_state.specs.Steps.{tests, Can, apply, may_link, may_stand, may_move, has_room, value_fits, not_default, mirror_given, mirror_room, mirror_at, mirror_write}
+use Rattle.model_state.specs.Steps.{tests, Can, apply, may_link, may_stand, may_move, has_room, value_fits, not_default, mirror_given, mirror_room}
+use Rattle.model_state.specs.Steps.{mirror_at, mirror_write}
 use Rattle.model_state.specs.Good.{Good, PlaceOk, Sound}
 use Rattle.model_state.proofs.StepTests.{passed, pass, place_equality}
 use Rattle.finite_maps.proofs.EqualLaws.{and_first, and_second, and_both, option_equality}
 use Rattle.model_laws.specs.Cells.{Cell, OfKind, OfPlace, OfRank, OfRow, OfWhole, side, mirror_side, place_list, step_writes}
 use Rattle.growth_laws.proofs.Keeps.{Keeps}
-use Rattle.growth_laws.proofs.Kept.{Same, same_kind, same_upper, same_opposite, same_row_upper, same_child_upper, same_bounded, same_finite, has_kept, same_had, contains_kept, attr_fits_kept, many_fits_kept, link_same, link_kept, mirror_same}
+use Rattle.growth_laws.proofs.Kept.{Same, same_kind, same_upper, same_opposite, same_row_upper, same_child_upper, same_bounded, same_finite, has_kept}
+use Rattle.growth_laws.proofs.Kept.{same_had, contains_kept, attr_fits_kept, many_fits_kept, link_same, link_kept, mirror_same}
 use Rattle.growth_laws.proofs.States.{stood_has}
 
 module _ (o n : Meta) (keeps : Keeps o n) where

@@ -1,5 +1,6 @@
 -- The text of a good state is that of the metamodel that grew.
-use Rattle.std.proofs.Common.{◌≡◌, ℕ, zero, suc, ◌+◌, ◌≤◌, Bool, true, false, cond, refl, sym, ap, subst, ◌∙◌, ◌&&◌, ◌++◌, List, [], ◌∷◌, length, map, nat_lt, not, arith}
+use Rattle.std.proofs.Common.{◌≡◌, ℕ, zero, suc, ◌+◌, ◌≤◌, Bool, true, false, cond, refl, sym, ap, subst, ◌∙◌, ◌&&◌, ◌++◌, List, [], ◌∷◌, length, map}
+use Rattle.std.proofs.Common.{nat_lt, not, arith}
 use Rattle.std.specs.Prelude.{Option, None, Some, slice_get, codes, unwrap_or}
 use Rattle.std.specs.Ordering.{nat_cmp, ordering_then}
 use Rattle.std.specs.Cmp.Lexicographic.{slice_cmp}
@@ -38,7 +39,8 @@ use Rattle.emfjson_io.specs.Values.{data_of}
 use Rattle.model_texts.specs.declared.key.Key.{Key}
 use Rattle.model_texts.specs.declared.key.Key.TheVariants.{Ident, Class, Feature}
 use Rattle.model_texts.specs.Keys.{key_cmp, key_name, key_number, keys_of}
-use Rattle.model_texts.specs.Tree.{child_ids, class_text, content, element, entry_ids, first_value, is_single, listed, members, object_of, one_or_list, part, reference, target_ids, text, whole, with_member}
+use Rattle.model_texts.specs.Tree.{child_ids, class_text, content, element, entry_ids, first_value, is_single, listed, members, object_of}
+use Rattle.model_texts.specs.Tree.{one_or_list, part, reference, target_ids, text, whole, with_member}
 use Rattle.model_texts.proofs.Order.{key_order}
 use Rattle.growth_laws.specs.Growth.{Evolves}
 use Rattle.growth_laws.proofs.Keeps.{Keeps}

@@ -22,9 +22,11 @@ pub record Ends (h : History) (v : ℕ) : Type 0 where
   pub is : path h v ≡ before ++ v ∷ []
   pub below : All (λ u. u < v) before
 
-below_parent : (h : History) → IsWhole h → (v : ℕ) → v < length h.versions → (parent : Option ℕ) → ComesBefore parent v → All (λ u. u < v) (path_of_parent h parent)
+below_parent : (h : History) → IsWhole h → (v : ℕ) → v < length h.versions → (parent : Option ℕ) → ComesBefore parent v
+    → All (λ u. u < v) (path_of_parent h parent)
 below_parent h whole v there None low = All-nil (λ u. u < v)
-below_parent h whole v there (Some p) low = All-weaker (λ u. u < suc p) (λ u. u < v) (λ u within. omega (arith, within, low)) (path h p) (path_upto h whole p (omega (arith, low, there)))
+below_parent h whole v there (Some p) low =
+    All-weaker (λ u. u < suc p) (λ u. u < v) (λ u within. omega (arith, within, low)) (path h p) (path_upto h whole p (omega (arith, low, there)))
 
 pub ends : (h : History) → IsWhole h → (v : ℕ) → v < length h.versions → Ends h v
 ends h whole v there =
@@ -53,7 +55,8 @@ passes_last h whole p v there passes =
     ap (λ us. greatest (filter p us)) end.is ∙ greatest_last p end.before v passes end.below
 
 -- else it is that of the parent's path
-pub passes_before : (h : History) (p : ℕ → Bool) (v parent : ℕ) → path h v ≡ path h parent ++ v ∷ [] → p v ≡ false → greatest (filter p (path h v)) ≡ greatest (filter p (path h parent))
+pub passes_before : (h : History) (p : ℕ → Bool) (v parent : ℕ) → path h v ≡ path h parent ++ v ∷ [] → p v ≡ false
+    → greatest (filter p (path h v)) ≡ greatest (filter p (path h parent))
 passes_before h p v parent is fails = ap (λ us. greatest (filter p us)) is ∙ ap greatest (filter_without p (path h parent) v fails)
 
 -- ---- the last common version
@@ -64,15 +67,20 @@ common_same h whole a there = passes_last h whole (is_among (path h a)) a there 
 -- no version after a's is on its path
 after_end : (h : History) → IsWhole h → (a b : ℕ) → a < length h.versions → a < b → is_among (path h a) b ≡ false
 after_end h whole a b there later =
-    not_among (path h a) b (All-weaker (λ u. u < suc a) (λ u. nat_eq b u ≡ false) (λ u within. ne_eqb b u (λ e. omega (arith, within, later, e))) (path h a) (path_upto h whole a there))
+    not_among (path h a) b
+    (All-weaker (λ u. u < suc a) (λ u. nat_eq b u ≡ false) (λ u within. ne_eqb b u (λ e. omega (arith, within, later, e))) (path h a)
+    (path_upto h whole a there))
 
 -- the later end is passed over
-pub common_second : (h : History) → IsWhole h → (a b parent : ℕ) → a < length h.versions → a < b → path h b ≡ path h parent ++ b ∷ [] → last_common h a parent ≡ last_common h a b
+pub common_second : (h : History) → IsWhole h → (a b parent : ℕ) → a < length h.versions → a < b → path h b ≡ path h parent ++ b ∷ []
+    → last_common h a parent ≡ last_common h a b
 common_second h whole a b parent there later is = sym (passes_before h (is_among (path h a)) b parent is (after_end h whole a b there later))
 
-pub common_first : (h : History) → IsWhole h → (a b parent : ℕ) → b < length h.versions → b < a → path h a ≡ path h parent ++ a ∷ [] → last_common h parent b ≡ last_common h a b
+pub common_first : (h : History) → IsWhole h → (a b parent : ℕ) → b < length h.versions → b < a → path h a ≡ path h parent ++ a ∷ []
+    → last_common h parent b ≡ last_common h a b
 common_first h whole a b parent there later is =
-    ap greatest (filter_same (is_among (path h parent)) (is_among (path h a)) (path h b) (All-weaker (λ u. u < suc b) (λ u. is_among (path h parent) u ≡ is_among (path h a) u) same (path h b) (path_upto h whole b there)))
+    ap greatest (filter_same (is_among (path h parent)) (is_among (path h a)) (path h b)
+    (All-weaker (λ u. u < suc b) (λ u. is_among (path h parent) u ≡ is_among (path h a) u) same (path h b) (path_upto h whole b there)))
   where
     same : (u : ℕ) → u < suc b → is_among (path h parent) u ≡ is_among (path h a) u
     same u within = sym (ap (λ us. is_among us u) is ∙ without (path h parent))
@@ -112,7 +120,8 @@ of_known h base pending v is = elim (or_cases (is_among (path h base) v) (counts
 pub known_first : (h : History) → IsWhole h → (base : ℕ) (pending : List ℕ) → base < length h.versions → is_known h base pending 0 ≡ true
 known_first h whole base pending there = known_of h base pending 0 (inl (on_path_first h whole base there))
 
-pub base_last : (h : History) → IsWhole h → (base : ℕ) (pending : List ℕ) (other : ℕ) → base < length h.versions → other < length h.versions → IsMergeBase h base pending other (merge_base h base pending other)
+pub base_last : (h : History) → IsWhole h → (base : ℕ) (pending : List ℕ) (other : ℕ) → base < length h.versions → other < length h.versions
+    → IsMergeBase h base pending other (merge_base h base pending other)
 base_last h whole base pending other first second =
     let most = greatest_is (is_known h base pending) (path h other) 0 (on_path_first h whole other second) (known_first h whole base pending first) in
     record {
@@ -121,7 +130,8 @@ base_last h whole base pending other first second =
       last = λ u on is. most.last u on (known_of h base pending u is);
     }
 
-pub base_after : (h : History) → IsWhole h → (base : ℕ) (pending : List ℕ) (other : ℕ) → base < length h.versions → other < length h.versions → last_common h base other ≤ merge_base h base pending other
+pub base_after : (h : History) → IsWhole h → (base : ℕ) (pending : List ℕ) (other : ℕ) → base < length h.versions → other < length h.versions
+    → last_common h base other ≤ merge_base h base pending other
 base_after h whole base pending other first second =
     let common = common_last h whole base other first second in
     (base_last h whole base pending other first second).last (last_common h base other) common.second (inl common.first)

@@ -1,5 +1,6 @@
 -- The greatest of the versions of a list that pass a test.
-use Rattle.std.proofs.Common.{◌≡◌, ℕ, zero, suc, ◌<◌, ◌≤◌, Bool, true, false, cond, ◌||◌, max, List, [], ◌∷◌, ◌++◌, get_or, nat_eq, refl, sym, ◌∙◌, ap, subst, arith, append-nil, inl, inr, eq-eqb}
+use Rattle.std.proofs.Common.{◌≡◌, ℕ, zero, suc, ◌<◌, ◌≤◌, Bool, true, false, cond, ◌||◌, max, List, [], ◌∷◌, ◌++◌, get_or, nat_eq, refl, sym, ◌∙◌}
+use Rattle.std.proofs.Common.{ap, subst, arith, append-nil, inl, inr, eq-eqb}
 use Rattle.std.specs.Prelude.{All, Contains, ◌⊎◌, fold}
 use Rattle.std.specs.List.{filter}
 use Rattle.std.proofs.lemmas.Bool.{eqb-true}
@@ -75,14 +76,16 @@ reached_more p u us a r (inr (there, passes)) = inr (contains_more u us r there,
 max_cases : (a u : ℕ) → (max a u ≡ a) ⊎ (max a u ≡ u)
 max_cases a u = grind arith
 
-reached_max : (p : ℕ → Bool) (u : ℕ) (us : List ℕ) (a r : ℕ) → p u ≡ true → (r ≡ max a u) ⊎ (Contains us r × (p r ≡ true)) → (r ≡ a) ⊎ (Contains (u ∷ us) r × (p r ≡ true))
+reached_max : (p : ℕ → Bool) (u : ℕ) (us : List ℕ) (a r : ℕ) → p u ≡ true → (r ≡ max a u) ⊎ (Contains us r × (p r ≡ true))
+    → (r ≡ a) ⊎ (Contains (u ∷ us) r × (p r ≡ true))
 reached_max p u us a r passes (inl is) = elim (max_cases a u) [
   | inl first ↦ inl (is ∙ first)
   | inr second ↦ inr ((0, omega arith, sym (is ∙ second)), subst (λ k. p k ≡ true) (sym (is ∙ second)) passes)
 ]
 reached_max p u us a r passes (inr (there, more)) = inr (contains_more u us r there, more)
 
-last_more : (p : ℕ → Bool) (u : ℕ) (us : List ℕ) (r : ℕ) → (p u ≡ true → u ≤ r) → ((w : ℕ) → Contains us w → p w ≡ true → w ≤ r) → (w : ℕ) → Contains (u ∷ us) w → p w ≡ true → w ≤ r
+last_more : (p : ℕ → Bool) (u : ℕ) (us : List ℕ) (r : ℕ) → (p u ≡ true → u ≤ r) → ((w : ℕ) → Contains us w → p w ≡ true → w ≤ r) → (w : ℕ)
+    → Contains (u ∷ us) w → p w ≡ true → w ≤ r
 last_more p u us r here more w there passes = elim (contains_cases u us w there) [
   | inl same ↦ subst (λ k. k ≤ r) same (here (subst (λ k. p k ≡ true) (sym same) passes))
   | inr later ↦ more w later passes

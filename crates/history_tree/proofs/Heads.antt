@@ -10,7 +10,8 @@ use Rattle.history_tree.specs.History.{History, with_version, last_on, start_of,
 use Rattle.history_tree.specs.Whole.{IsWhole}
 
 -- one version more is the last, where it is on the branch
-pub last_on_more : (branch : ℕ) (vs : List Version) (v : Version) (n found : ℕ) → last_on branch (vs ++ v ∷ []) n found ≡ cond (nat_eq v.branch branch) (n + length vs) (last_on branch vs n found)
+pub last_on_more : (branch : ℕ) (vs : List Version) (v : Version) (n found : ℕ)
+    → last_on branch (vs ++ v ∷ []) n found ≡ cond (nat_eq v.branch branch) (n + length vs) (last_on branch vs n found)
 last_on_more branch [] v n found = ap (λ k. cond (nat_eq v.branch branch) k found) (omega arith)
 last_on_more branch (w ∷ vs) v n found =
     let next : ℕ = cond (nat_eq w.branch branch) n found in
@@ -24,9 +25,11 @@ chosen_within false n m k first second = second
 pub last_on_within : (branch : ℕ) (vs : List Version) (n found most : ℕ) → found < most → n + length vs ≤ most → last_on branch vs n found < most
 last_on_within branch [] n found most before within = before
 last_on_within branch (v ∷ vs) n found most before within =
-    last_on_within branch vs (suc n) (cond (nat_eq v.branch branch) n found) most (chosen_within (nat_eq v.branch branch) n found most (omega (arith, within)) before) (omega (arith, within))
+    last_on_within branch vs (suc n) (cond (nat_eq v.branch branch) n found) most
+    (chosen_within (nat_eq v.branch branch) n found most (omega (arith, within)) before) (omega (arith, within))
 
-start_within : (bs : List Branch) (k most : ℕ) → 0 < most → All (λ (b : Branch). b.start < most) bs → option_map_or (λ (b : Branch). b.start) (slice_get bs k) 0 < most
+start_within : (bs : List Branch) (k most : ℕ) → 0 < most → All (λ (b : Branch). b.start < most) bs
+    → option_map_or (λ (b : Branch). b.start) (slice_get bs k) 0 < most
 start_within [] k most some all = some
 start_within (b ∷ bs) zero most some all = All-head (λ (b : Branch). b.start < most) b bs all
 start_within (b ∷ bs) (suc k) most some all = start_within bs k most some (All-tail (λ (b : Branch). b.start < most) b bs all)
@@ -60,10 +63,12 @@ head_other h v branch apart =
     ∙ ap (λ b. cond b (0 + length h.versions) (head h branch)) (other_number v.branch branch apart)
 
 -- where no version is on the branch, what was found before stays
-last_none : (branch : ℕ) (vs : List Version) (n found : ℕ) → ((u : ℕ) (x : Version) → slice_get vs u ≡ Some x → x.branch ≢ branch) → last_on branch vs n found ≡ found
+last_none : (branch : ℕ) (vs : List Version) (n found : ℕ) → ((u : ℕ) (x : Version) → slice_get vs u ≡ Some x → x.branch ≢ branch)
+    → last_on branch vs n found ≡ found
 last_none branch [] n found none = refl
 last_none branch (w ∷ vs) n found none =
-    ap (λ b. last_on branch vs (suc n) (cond b n found)) (other_number w.branch branch (none 0 w refl)) ∙ last_none branch vs (suc n) found (λ u x there. none (suc u) x there)
+    ap (λ b. last_on branch vs (suc n) (cond b n found)) (other_number w.branch branch (none 0 w refl))
+    ∙ last_none branch vs (suc n) found (λ u x there. none (suc u) x there)
 
 -- a version on the branch is found, where none after it is on the branch
 last_here : (branch : ℕ) (vs : List Version) (n found k : ℕ) (x : Version) → slice_get vs k ≡ Some x → x.branch ≡ branch

@@ -11,7 +11,8 @@ use Rattle.history_tree.proofs.Paths.{get_left, path_by_parent, parent_before}
 
 rises_push : (us : List ℕ) (v : ℕ) → Rises us → All (λ u. u < v) us → Rises (us ++ v ∷ [])
 rises_push [] v rises below = (λ k d within. absurd (omega (arith, within)), tt)
-rises_push (u ∷ us) v rises below = (All-push (λ w. u < w) us v rises.0 (All-head (λ w. w < v) u us below), rises_push us v rises.1 (All-tail (λ w. w < v) u us below))
+rises_push (u ∷ us) v rises below =
+    (All-push (λ w. u < w) us v rises.0 (All-head (λ w. w < v) u us below), rises_push us v rises.1 (All-tail (λ w. w < v) u us below))
 
 -- the list leads to that version, and no number on it is greater
 record Leading (v : ℕ) (us : List ℕ) : Type 0 where
@@ -38,7 +39,8 @@ further p v us before more =
     }
 
 -- by the parent, if there is one
-by_parent : (h : History) (v : ℕ) (parent : Option ℕ) → ComesBefore parent v → ((p : ℕ) → p < v → Leading p (path h p)) → Leading v (path_of_parent h parent ++ v ∷ [])
+by_parent : (h : History) (v : ℕ) (parent : Option ℕ) → ComesBefore parent v → ((p : ℕ) → p < v → Leading p (path h p))
+    → Leading v (path_of_parent h parent ++ v ∷ [])
 by_parent h v None is before = alone v is
 by_parent h v (Some p) low before = further p v (path h p) low (before p low)
 

@@ -1,5 +1,6 @@
 -- The place of a name in a list, by an index of the first names.
-use Rattle.std.proofs.Common.{◌≡◌, ℕ, suc, ◌+◌, ◌<◌, ◌≤◌, ◌∷◌, ◌++◌, ◌||◌, nat_lt, Bool, true, false, cond, List, [], length, map, take, drop, get_or, refl, sym, ap, ◌∙◌, arith, ◌-◌}
+use Rattle.std.proofs.Common.{◌≡◌, ℕ, suc, ◌+◌, ◌<◌, ◌≤◌, ◌∷◌, ◌++◌, ◌||◌, nat_lt, Bool, true, false, cond, List, [], length, map, take, drop, get_or}
+use Rattle.std.proofs.Common.{refl, sym, ap, ◌∙◌, arith, ◌-◌}
 use Rattle.std.specs.Prelude.{Option, None, Some, is_some, slice_get, not}
 use Rattle.std.specs.List.{position, position_or_len, find, list_any}
 use Rattle.std.specs.Option.{option_map, option_and_then}
@@ -35,15 +36,18 @@ module _ {X : Type 0} (p : X → Bool) where
       later : cond (nat_lt (1 + k) (suc (length xs))) (Some (1 + k)) None ≡ option_map (λ (n : ℕ). suc n) (cond (nat_lt k (length xs)) (Some k) None)
       later =
           let e : 1 + k ≡ suc k = omega arith in
-          ap (λ (n : ℕ). cond (nat_lt n (suc (length xs))) (Some (1 + k)) None) e ∙ ap (λ b. cond b (Some (1 + k)) None) (lt_suc k (length xs)) ∙ one_more (nat_lt k (length xs))
+          ap (λ (n : ℕ). cond (nat_lt n (suc (length xs))) (Some (1 + k)) None) e ∙ ap (λ b. cond b (Some (1 + k)) None) (lt_suc k (length xs))
+          ∙ one_more (nat_lt k (length xs))
 
-      by_test : (b : Bool) → cond (nat_lt (cond (not b) (1 + k) 0) (suc (length xs))) (Some (cond (not b) (1 + k) 0)) None ≡ cond b (Some 0) (option_map (λ (n : ℕ). suc n) (cond (nat_lt k (length xs)) (Some k) None))
+      by_test : (b : Bool) → cond (nat_lt (cond (not b) (1 + k) 0) (suc (length xs))) (Some (cond (not b) (1 + k) 0)) None ≡ cond b (Some 0)
+          (option_map (λ (n : ℕ). suc n) (cond (nat_lt k (length xs)) (Some k) None))
       by_test true = ap (λ b. cond b (Some 0) None) (zero_lt (length xs))
       by_test false = later
 
   pub find_by_place : (xs : List X) → option_and_then (slice_get xs) (position p xs) ≡ find p xs
   find_by_place [] = refl
-  find_by_place (x ∷ xs) = ap (option_and_then (slice_get (x ∷ xs))) (place_next x xs) ∙ by_test (p x) (position p xs) ∙ ap (cond (p x) (Some x)) (find_by_place xs)
+  find_by_place (x ∷ xs) =
+      ap (option_and_then (slice_get (x ∷ xs))) (place_next x xs) ∙ by_test (p x) (position p xs) ∙ ap (cond (p x) (Some x)) (find_by_place xs)
     where
       by_test : (b : Bool) (o : Option ℕ)
           → option_and_then (slice_get (x ∷ xs)) (cond b (Some 0) (option_map (λ n. suc n) o)) ≡ cond b (Some x) (option_and_then (slice_get xs) o)
@@ -83,7 +87,8 @@ number_of-append q (x ∷ xs) ys =
     ap (λ o. cond (bytes_eq q x) (Some 0) (option_map (λ n. suc n) o)) (number_of-append q xs ys) ∙ by_tests (bytes_eq q x) (number_of q xs) (number_of q ys)
   where
     by_tests : (b : Bool) (o p : Option ℕ)
-        → cond b (Some 0) (option_map (λ n. suc n) (or_else o (option_map (λ n. length xs + n) p))) ≡ or_else (cond b (Some 0) (option_map (λ n. suc n) o)) (option_map (λ n. suc (length xs) + n) p)
+        → cond b (Some 0) (option_map (λ n. suc n) (or_else o (option_map (λ n. length xs + n) p))) ≡ or_else
+        (cond b (Some 0) (option_map (λ n. suc n) o)) (option_map (λ n. suc (length xs) + n) p)
     by_tests true o p = refl
     by_tests false (Some m) p = refl
     by_tests false None None = refl
@@ -94,7 +99,8 @@ module _ {X : Type 0} (name : X → Name) (q : Name) (xs : List X) (k : ℕ) (wi
   parted =
       ap (number_of q) (sym (ap (map name) (take-append-drop k xs)) ∙ map-append name (take k xs) (drop k xs))
       ∙ number_of-append q (map name (take k xs)) (map name (drop k xs))
-      ∙ ap (λ (m : ℕ). or_else (number_of q (map name (take k xs))) (option_map (λ n. m + n) (number_of q (map name (drop k xs))))) (length-map (take k xs) name ∙ length-take-le k xs within)
+      ∙ ap (λ (m : ℕ). or_else (number_of q (map name (take k xs))) (option_map (λ n. m + n) (number_of q (map name (drop k xs)))))
+      (length-map (take k xs) name ∙ length-take-le k xs within)
 
   rest : take (length xs - k) (drop k xs) ≡ drop k xs
   rest = let size = length-drop k xs in take_all (length xs - k) (drop k xs) (omega (arith, size))

@@ -46,7 +46,8 @@ path_kept h v k within =
     ∙ ap (λ o. unwrap_or o []) (paths_kept known (v ∷ []) k (omega (arith, within, paths_length [] h.versions)))
 
 -- ---- by parents
-behind_kept : (paths : List (List ℕ)) (vs : List Version) (parent : Option ℕ) (n : ℕ) → n ≡ length paths → ComesBefore parent n → path_before (paths_from paths vs) parent ≡ path_before paths parent
+behind_kept : (paths : List (List ℕ)) (vs : List Version) (parent : Option ℕ) (n : ℕ) → n ≡ length paths → ComesBefore parent n
+    → path_before (paths_from paths vs) parent ≡ path_before paths parent
 behind_kept paths vs None n is before = refl
 behind_kept paths vs (Some p) n is before = ap (λ o. unwrap_or o []) (paths_kept paths vs p (omega (arith, is, before)))
 
@@ -66,7 +67,8 @@ at_number paths (w ∷ vs) (suc k) n v there is before =
     at_number (paths ++ more) vs k n v there (omega (arith, is, length-append paths more)) before
 
 -- the path of a version is that of its parent, and then the version itself
-pub path_by_parent : (h : History) (k : ℕ) (v : Version) → slice_get h.versions k ≡ Some v → ComesBefore v.parent k → path h k ≡ path_of_parent h v.parent ++ k ∷ []
+pub path_by_parent : (h : History) (k : ℕ) (v : Version) → slice_get h.versions k ≡ Some v → ComesBefore v.parent k
+    → path h k ≡ path_of_parent h v.parent ++ k ∷ []
 path_by_parent h k v there before = ap (λ o. unwrap_or o []) (at_number [] h.versions k k v there (omega arith) before) ∙ by v.parent
   where
     by : (parent : Option ℕ) → path_before (paths_from [] h.versions) parent ++ k ∷ [] ≡ path_of_parent h parent ++ k ∷ []
@@ -82,16 +84,19 @@ parent_before n (w ∷ vs) zero m v all there is =
 parent_before n (w ∷ vs) (suc k) m v all there is = parent_before (suc n) vs k m v all.1 there (omega (arith, is))
 
 -- the path of a further version
-pub path_more : (h : History) (v : Version) → ComesBefore v.parent (length h.versions) → path (with_version h v) (length h.versions) ≡ path_of_parent h v.parent ++ length h.versions ∷ []
+pub path_more : (h : History) (v : Version) → ComesBefore v.parent (length h.versions)
+    → path (with_version h v) (length h.versions) ≡ path_of_parent h v.parent ++ length h.versions ∷ []
 path_more h v before =
     path_by_parent (with_version h v) (length h.versions) v (get_last h.versions v (length h.versions) refl) before ∙ by v.parent before
   where
-    by : (parent : Option ℕ) → ComesBefore parent (length h.versions) → path_of_parent (with_version h v) parent ++ length h.versions ∷ [] ≡ path_of_parent h parent ++ length h.versions ∷ []
+    by : (parent : Option ℕ) → ComesBefore parent (length h.versions)
+        → path_of_parent (with_version h v) parent ++ length h.versions ∷ [] ≡ path_of_parent h parent ++ length h.versions ∷ []
     by None within = refl
     by (Some p) within = ap (λ q. q ++ length h.versions ∷ []) (path_kept h v p within)
 
 -- a version that is found after others, from the last to the first, is the next on their path
-pub path_step : (h : History) → IsWhole h → (back : List ℕ) (p : ℕ) (v : Version) → slice_get h.versions p ≡ Some v → path h p ++ reverse back ≡ path_of_parent h v.parent ++ reverse (back ++ p ∷ [])
+pub path_step : (h : History) → IsWhole h → (back : List ℕ) (p : ℕ) (v : Version) → slice_get h.versions p ≡ Some v
+    → path h p ++ reverse back ≡ path_of_parent h v.parent ++ reverse (back ++ p ∷ [])
 path_step h whole back p v there =
     ap (λ q. q ++ reverse back) (path_by_parent h p v there (parent_before 0 h.versions p p v whole.parents there (omega arith)))
     ∙ append_assoc (path_of_parent h v.parent) (p ∷ []) (reverse back)

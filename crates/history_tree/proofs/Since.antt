@@ -1,9 +1,11 @@
 -- The path of a version goes on from that of each version on it, and so do the operations.
-use Rattle.std.proofs.Common.{◌≡◌, ◌⊎◌, inl, inr, ℕ, zero, suc, ◌<◌, ◌≤◌, nat_lt, Bool, true, false, cond, List, [], ◌∷◌, ◌++◌, length, get_or, refl, sym, ◌∙◌, ap, subst, arith, append-nil, append_assoc, reverse}
+use Rattle.std.proofs.Common.{◌≡◌, ◌⊎◌, inl, inr, ℕ, zero, suc, ◌<◌, ◌≤◌, nat_lt, Bool, true, false, cond, List, [], ◌∷◌, ◌++◌, length, get_or, refl}
+use Rattle.std.proofs.Common.{sym, ◌∙◌, ap, subst, arith, append-nil, append_assoc, reverse}
 use Rattle.std.specs.Prelude.{All, Contains, Option, None, Some, slice_get}
 use Rattle.std.specs.List.{filter}
 use Rattle.std.proofs.lemmas.Bool.{ltb-true, ltb-false}
-use Rattle.std.proofs.lemmas.List.Elements.{All-cons, All-head, All-tail, All-weaker, All-contains, Contains-append_cases, Contains-append_left, Contains-push_cases, filter-append}
+use Rattle.std.proofs.lemmas.List.Elements.{All-cons, All-head, All-tail, All-weaker, All-contains, Contains-append_cases, Contains-append_left}
+use Rattle.std.proofs.lemmas.List.Elements.{Contains-push_cases, filter-append}
 use Rattle.std.proofs.lemmas.List.{reverse-append}
 use Rattle.std.proofs.lemmas.Option.{slice_get-get_or}
 use Rattle.history_tree.specs.declared.version.Version.{Version}
@@ -61,7 +63,8 @@ comes_from h whole u v there on =
     let goes : path h v ≡ path_of_parent h version.parent ++ v ∷ [] = path_by_parent h v version at before in
     by version.parent before goes (Contains-push_cases (path_of_parent h version.parent) v u (subst (λ us. Contains us u) goes on))
   where
-    by : (parent : Option ℕ) → ComesBefore parent v → path h v ≡ path_of_parent h parent ++ v ∷ [] → Contains (path_of_parent h parent) u ⊎ (v ≡ u) → (v ≡ u) ⊎ ComesFrom h u v
+    by : (parent : Option ℕ) → ComesBefore parent v → path h v ≡ path_of_parent h parent ++ v ∷ [] → Contains (path_of_parent h parent) u ⊎ (v ≡ u)
+        → (v ≡ u) ⊎ ComesFrom h u v
     by parent before goes (inr same) = inl same
     by None before goes (inl on) = absurd (none_on u on)
     by (Some p) before goes (inl on) = inr (record { parent = p; before = before; on_path = on; further = goes })
@@ -80,10 +83,12 @@ nothing_after h whole v there = none_after v (path h v) (path_upto h whole v the
 
 -- nor after a greater one
 pub nothing_past : (h : History) → IsWhole h → (u v : ℕ) → v < length h.versions → v ≤ u → path_after h u v ≡ []
-nothing_past h whole u v there low = none_after u (path h v) (All-weaker (λ w. w < suc v) (λ w. w < suc u) (λ w within. omega (arith, within, low)) (path h v) (path_upto h whole v there))
+nothing_past h whole u v there low =
+    none_after u (path h v) (All-weaker (λ w. w < suc v) (λ w. w < suc u) (λ w within. omega (arith, within, low)) (path h v) (path_upto h whole v there))
 
 -- as versions are found from the last one back, those that are left are of the parent's path
-pub after_further : (h : History) (u last v parent : ℕ) (back : List ℕ) → path h v ≡ path h parent ++ v ∷ [] → u < v → path_after h u last ≡ path_after h u v ++ reverse back → path_after h u last ≡ path_after h u parent ++ reverse (back ++ v ∷ [])
+pub after_further : (h : History) (u last v parent : ℕ) (back : List ℕ) → path h v ≡ path h parent ++ v ∷ [] → u < v
+    → path_after h u last ≡ path_after h u v ++ reverse back → path_after h u last ≡ path_after h u parent ++ reverse (back ++ v ∷ [])
 after_further h u last v parent back further low so_far =
     so_far
     ∙ ap (λ us. us ++ reverse back) (ap (filter (λ w. nat_lt u w)) further ∙ one_after u (path h parent) v low)
@@ -91,7 +96,8 @@ after_further h u last v parent back further low so_far =
     ∙ ap (λ us. path_after h u parent ++ us) (sym (reverse-append back (v ∷ [])))
 
 -- by what the path of the parent is
-splits_by : (h : History) → IsWhole h → (u v : ℕ) → v < length h.versions → ((p : ℕ) → p < v → p < length h.versions → Contains (path h p) u → path h p ≡ path h u ++ path_after h u p) → (v ≡ u) ⊎ ComesFrom h u v
+splits_by : (h : History) → IsWhole h → (u v : ℕ) → v < length h.versions
+    → ((p : ℕ) → p < v → p < length h.versions → Contains (path h p) u → path h p ≡ path h u ++ path_after h u p) → (v ≡ u) ⊎ ComesFrom h u v
     → path h v ≡ path h u ++ path_after h u v
 splits_by h whole u v there before (inl same) =
     subst (λ w. path h v ≡ path h w ++ path_after h w v) same
@@ -99,8 +105,10 @@ splits_by h whole u v there before (inl same) =
 splits_by h whole u v there before (inr c) =
     let known : c.parent < length h.versions = omega (arith, c.before, there) in
     let under : u ≤ c.parent = on_path_low h whole u c.parent known c.on_path in
-    let rest : path_after h u v ≡ path_after h u c.parent ++ v ∷ [] = ap (filter (λ w. nat_lt u w)) c.further ∙ one_after u (path h c.parent) v (omega (arith, under, c.before)) in
-    c.further ∙ ap (λ us. us ++ v ∷ []) (before c.parent c.before known c.on_path) ∙ append_assoc (path h u) (path_after h u c.parent) (v ∷ []) ∙ ap (λ us. path h u ++ us) (sym rest)
+    let rest : path_after h u v ≡ path_after h u c.parent ++ v ∷ [] =
+    ap (filter (λ w. nat_lt u w)) c.further ∙ one_after u (path h c.parent) v (omega (arith, under, c.before)) in
+    c.further ∙ ap (λ us. us ++ v ∷ []) (before c.parent c.before known c.on_path) ∙ append_assoc (path h u) (path_after h u c.parent) (v ∷ [])
+    ∙ ap (λ us. path h u ++ us) (sym rest)
 
 splits : (h : History) → IsWhole h → (n u v : ℕ) → v < n → v < length h.versions → Contains (path h v) u → path h v ≡ path h u ++ path_after h u v
 splits h whole zero u v low there on = absurd (omega (arith, low))
@@ -112,8 +120,10 @@ pub path_splits : (h : History) → IsWhole h → (u v : ℕ) → v < length h.v
 path_splits h whole u v = splits h whole (suc v) u v (omega arith)
 
 -- and so are the operations
-pub operations_split : (h : History) → IsWhole h → (u v : ℕ) → v < length h.versions → Contains (path h v) u → operations_to h v ≡ operations_to h u ++ operations_after h u v
-operations_split h whole u v there on = ap (operations_of h.versions) (path_splits h whole u v there on) ∙ operations_append h.versions (path h u) (path_after h u v)
+pub operations_split : (h : History) → IsWhole h → (u v : ℕ) → v < length h.versions → Contains (path h v) u
+    → operations_to h v ≡ operations_to h u ++ operations_after h u v
+operations_split h whole u v there on =
+    ap (operations_of h.versions) (path_splits h whole u v there on) ∙ operations_append h.versions (path h u) (path_after h u v)
 
 -- what is on the path of a version on a path is on that path
 pub on_longer_path : (h : History) → IsWhole h → (t u v : ℕ) → v < length h.versions → Contains (path h v) u → Contains (path h u) t → Contains (path h v) t
@@ -133,8 +143,10 @@ pub after_above : (h : History) (u v : ℕ) → All (λ w. u < w) (path_after h 
 after_above h u v = all_after u (path h v)
 
 -- of two versions on one path the lesser is on the path of the greater
-pub earlier_on_path : (h : History) → IsWhole h → (t u v : ℕ) → v < length h.versions → Contains (path h v) t → Contains (path h v) u → t ≤ u → Contains (path h u) t
-earlier_on_path h whole t u v there first second under = by (Contains-append_cases (path h u) (path_after h u v) t (subst (λ us. Contains us t) (path_splits h whole u v there second) first))
+pub earlier_on_path : (h : History) → IsWhole h → (t u v : ℕ) → v < length h.versions → Contains (path h v) t → Contains (path h v) u → t ≤ u
+    → Contains (path h u) t
+earlier_on_path h whole t u v there first second under =
+    by (Contains-append_cases (path h u) (path_after h u v) t (subst (λ us. Contains us t) (path_splits h whole u v there second) first))
   where
     by : Contains (path h u) t ⊎ Contains (path_after h u v) t → Contains (path h u) t
     by (inl on) = on

@@ -1,5 +1,6 @@
 -- What a further version and a further branch leave: operations of versions, heads, and what is on the paths of heads.
-use Rattle.std.proofs.Common.{◌≡◌, ◌≢◌, ℕ, zero, suc, ◌+◌, ◌<◌, ◌≤◌, nat_eq, Bool, true, false, cond, List, [], ◌∷◌, ◌++◌, length, refl, sym, ◌∙◌, ap, subst, arith, length-append, append_assoc, append-nil, true≢false}
+use Rattle.std.proofs.Common.{◌≡◌, ◌≢◌, ℕ, zero, suc, ◌+◌, ◌<◌, ◌≤◌, nat_eq, Bool, true, false, cond, List, [], ◌∷◌, ◌++◌, length, refl, sym, ◌∙◌, ap}
+use Rattle.std.proofs.Common.{subst, arith, length-append, append_assoc, append-nil, true≢false}
 use Rattle.std.specs.Prelude.{All, Contains, Option, None, Some, is_some, slice_get}
 use Rattle.std.specs.List.{AllByRecursion}
 use Rattle.std.specs.Option.{option_map_or}
@@ -11,7 +12,8 @@ use Rattle.model_state.specs.declared.operation.Operation.{Operation}
 use Rattle.history_tree.specs.declared.version.Version.{Version}
 use Rattle.history_tree.specs.declared.version.Branch.{Branch}
 use Rattle.history_tree.specs.declared.version.Tag.{Tag}
-use Rattle.history_tree.specs.History.{History, first_version, first_history, with_version, with_branch, with_tag, path, path_at, path_before, paths_from, last_on, head}
+use Rattle.history_tree.specs.History.{History, first_version, first_history, with_version, with_branch, with_tag, path, path_at, path_before}
+use Rattle.history_tree.specs.History.{paths_from, last_on, head}
 use Rattle.history_tree.specs.States.{package_at, operations_of, operations_to}
 use Rattle.history_tree.specs.Whole.{IsWhole, ComesBefore}
 use Rattle.history_tree.specs.Laws.{path_of_parent}
@@ -37,11 +39,13 @@ below_behind : (n : ℕ) (paths : List (List ℕ)) (parent : Option ℕ) → All
 below_behind n paths None all = tt
 below_behind n paths (Some p) all = below_at n paths p all
 
-all_below : (n : ℕ) (paths : List (List ℕ)) (vs : List Version) → AllByRecursion (AreBelow n) paths → length paths + length vs ≤ n → AllByRecursion (AreBelow n) (paths_from paths vs)
+all_below : (n : ℕ) (paths : List (List ℕ)) (vs : List Version) → AllByRecursion (AreBelow n) paths → length paths + length vs ≤ n
+    → AllByRecursion (AreBelow n) (paths_from paths vs)
 all_below n paths [] all fits = all
 all_below n paths (v ∷ vs) all fits =
     let p : List ℕ = path_before paths v.parent ++ length paths ∷ [] in
-    let next : AreBelow n p = all_both (λ u. u < n) (path_before paths v.parent) (length paths ∷ []) (below_behind n paths v.parent all) (omega (arith, fits), tt) in
+    let next : AreBelow n p =
+    all_both (λ u. u < n) (path_before paths v.parent) (length paths ∷ []) (below_behind n paths v.parent all) (omega (arith, fits), tt) in
     all_below n (paths ++ p ∷ []) vs (all_both (AreBelow n) paths (p ∷ []) all (next, tt)) (omega (arith, fits, length-append paths (p ∷ [])))
 
 pub path_below : (h : History) (v : ℕ) → AreBelow (length h.versions) (path h v)
@@ -61,7 +65,9 @@ operations_same vs x (u ∷ us) all = λ i. package_kept vs x u all.0 i ++ opera
 
 pub operations_append : (vs : List Version) (us ws : List ℕ) → operations_of vs (us ++ ws) ≡ operations_of vs us ++ operations_of vs ws
 operations_append vs [] ws = refl
-operations_append vs (u ∷ us) ws = ap (λ (l : List Operation). package_at vs u ++ l) (operations_append vs us ws) ∙ sym (append_assoc (package_at vs u) (operations_of vs us) (operations_of vs ws))
+operations_append vs (u ∷ us) ws =
+    ap (λ (l : List Operation). package_at vs u ++ l) (operations_append vs us ws)
+    ∙ sym (append_assoc (package_at vs u) (operations_of vs us) (operations_of vs ws))
 
 -- a further version leaves the operations up to each that is there
 pub operations_kept : (h : History) (x : Version) (k : ℕ) → k < length h.versions → operations_to (with_version h x) k ≡ operations_to h k
@@ -69,14 +75,16 @@ operations_kept h x k within =
     ap (λ us. operations_of (h.versions ++ x ∷ []) us) (path_kept h x k within) ∙ operations_same h.versions x (path h k) (path_below h k)
 
 -- and its own come after those up to its parent
-pub operations_more : (h : History) (x : Version) (p : ℕ) → x.parent ≡ Some p → p < length h.versions → operations_to (with_version h x) (length h.versions) ≡ operations_to h p ++ x.«package»
+pub operations_more : (h : History) (x : Version) (p : ℕ) → x.parent ≡ Some p → p < length h.versions
+    → operations_to (with_version h x) (length h.versions) ≡ operations_to h p ++ x.«package»
 operations_more h x p parent within =
     let n : ℕ = length h.versions in
     let vs : List Version = h.versions ++ x ∷ [] in
     let before : ComesBefore x.parent n = subst (λ o. ComesBefore o n) (sym parent) within in
     ap (λ us. operations_of vs us) (path_more h x before ∙ ap (λ o. path_of_parent h o ++ n ∷ []) parent)
     ∙ operations_append vs (path h p) (n ∷ [])
-    ∙ (λ i. operations_same h.versions x (path h p) (path_below h p) i ++ (option_map_or (λ (v : Version). v.«package») (get_last h.versions x n refl i) [] ++ []))
+    ∙ (λ i. operations_same h.versions x (path h p) (path_below h p) i
+    ++ (option_map_or (λ (v : Version). v.«package») (get_last h.versions x n refl i) [] ++ []))
     ∙ ap (λ (l : List Operation). operations_to h p ++ l) (append-nil x.«package»)
 
 -- ---- what is on the path of a head
@@ -85,10 +93,12 @@ pub path_ends : (h : History) → IsWhole h → (k : ℕ) → k < length h.versi
 path_ends h whole k within =
     let v : Version = slice_index_or h.versions k first_version in
     let there : slice_get h.versions k ≡ Some v = slice_get-get_or h.versions k first_version within in
-    subst (λ p. Contains p k) (sym (path_by_parent h k v there (parent_before 0 h.versions k k v whole.parents there (omega arith)))) (Contains-push (path_of_parent h v.parent) k)
+    subst (λ p. Contains p k) (sym (path_by_parent h k v there (parent_before 0 h.versions k k v whole.parents there (omega arith))))
+    (Contains-push (path_of_parent h v.parent) k)
 
 -- what is on the path of a head stays on it
-pub on_path_more : (h : History) (x : Version) → IsWhole h → x.parent ≡ Some (head h x.branch) → (branch u : ℕ) → Contains (path h (head h branch)) u → Contains (path (with_version h x) (head (with_version h x) branch)) u
+pub on_path_more : (h : History) (x : Version) → IsWhole h → x.parent ≡ Some (head h x.branch) → (branch u : ℕ) → Contains (path h (head h branch)) u
+    → Contains (path (with_version h x) (head (with_version h x) branch)) u
 on_path_more h x whole parent branch u on = by (nat_eq x.branch branch) refl
   where
     n : ℕ
@@ -108,7 +118,8 @@ on_path_more h x whole parent branch u on = by (nat_eq x.branch branch) refl
         (Contains-append_left (path h (head h x.branch)) (n ∷ []) u (subst (λ b. Contains (path h (head h b)) u) (sym same) on))
     by false is =
         let apart : x.branch ≢ branch = λ e. absurd (differ (ap (λ b. nat_eq x.branch b) e ∙ is)) in
-        subst (λ p. Contains p u) (sym (ap (λ k. path (with_version h x) k) (head_other h x branch apart) ∙ path_kept h x (head h branch) (head_within h branch whole))) on
+        subst (λ p. Contains p u)
+        (sym (ap (λ k. path (with_version h x) k) (head_other h x branch apart) ∙ path_kept h x (head h branch) (head_within h branch whole))) on
       where
         differ : nat_eq x.branch x.branch ≡ false → ⊥
         differ e = true≢false (sym (same_number x.branch) ∙ e)
@@ -116,7 +127,8 @@ on_path_more h x whole parent branch u on = by (nat_eq x.branch branch) refl
 -- ---- a further branch
 pub head_kept : (h : History) (name : List ℕ) (start branch : ℕ) → branch < length h.branches → head (with_branch h name start) branch ≡ head h branch
 head_kept h name start branch within =
-    ap (λ (o : Option Branch). last_on branch h.versions 0 (option_map_or (λ b. b.start) o 0)) (get_left h.branches (record { name = name; start = start } ∷ []) branch within)
+    ap (λ (o : Option Branch). last_on branch h.versions 0 (option_map_or (λ b. b.start) o 0))
+    (get_left h.branches (record { name = name; start = start } ∷ []) branch within)
 
 last_on_none : (branch : ℕ) (vs : List Version) (n found : ℕ) → AllByRecursion (λ (v : Version). v.branch < branch) vs → last_on branch vs n found ≡ found
 last_on_none branch [] n found all = refl
@@ -127,7 +139,8 @@ last_on_none branch (v ∷ vs) n found all =
 -- its head is where it starts
 pub head_new : (h : History) → IsWhole h → (name : List ℕ) (start : ℕ) → head (with_branch h name start) (length h.branches) ≡ start
 head_new h whole name start =
-    ap (λ (o : Option Branch). last_on (length h.branches) h.versions 0 (option_map_or (λ b. b.start) o 0)) (get_last h.branches (record { name = name; start = start }) (length h.branches) refl)
+    ap (λ (o : Option Branch). last_on (length h.branches) h.versions 0 (option_map_or (λ b. b.start) o 0))
+    (get_last h.branches (record { name = name; start = start }) (length h.branches) refl)
     ∙ last_on_none (length h.branches) h.versions 0 start (recursion_from_All (λ (v : Version). v.branch < length h.branches) h.versions whole.branches)
 
 pub whole_branch : (h : History) → IsWhole h → (name : List ℕ) (start : ℕ) → start < length h.versions → IsWhole (with_branch h name start)
@@ -138,7 +151,8 @@ whole_branch h whole name start within =
       some_version = whole.some_version;
       some_branch = omega (arith, longer);
       parents = whole.parents;
-      branches = All-weaker (λ (v : Version). v.branch < length h.branches) (λ (v : Version). v.branch < length (h.branches ++ b ∷ [])) (λ v on. omega (arith, on, longer)) h.versions whole.branches;
+      branches = All-weaker (λ (v : Version). v.branch < length h.branches) (λ (v : Version). v.branch < length (h.branches ++ b ∷ []))
+          (λ v on. omega (arith, on, longer)) h.versions whole.branches;
       merged = whole.merged;
       signed = whole.signed;
       starts = All-push (λ (b : Branch). b.start < length h.versions) h.branches b whole.starts within;

@@ -1,5 +1,6 @@
 -- The names of versions' tags, as one tag more is gone over.
-use Rattle.std.proofs.Common.{◌≡◌, ℕ, zero, suc, ◌+◌, ◌<◌, ◌≤◌, Bool, true, false, cond, nat_eq, List, [], ◌∷◌, ◌++◌, refl, sym, ap, ◌∙◌, map, take, length, get_or, set, arith, append-nil, get_or-set_same, get_or-set_other}
+use Rattle.std.proofs.Common.{◌≡◌, ℕ, zero, suc, ◌+◌, ◌<◌, ◌≤◌, Bool, true, false, cond, nat_eq, List, [], ◌∷◌, ◌++◌, refl, sym, ap, ◌∙◌, map, take}
+use Rattle.std.proofs.Common.{length, get_or, set, arith, append-nil, get_or-set_same, get_or-set_other}
 use Rattle.std.specs.List.{filter}
 use Rattle.std.proofs.Math.Seq.{take-suc}
 use Rattle.std.proofs.lemmas.Bool.{ne_eqb, eq-eqb, eqb-true, eqb-false}
@@ -19,7 +20,8 @@ same_or_not r s {G = G} same other = elim (nat_eq r s) as (λ b. nat_eq r s ≡ 
 ] refl
 
 -- a name is put into the list of a version
-pub put_name : (lists made : List (List (List ℕ))) (at : ℕ) (name : List ℕ) (old new : List (List ℕ)) → at < length lists → old ≡ get_or lists at old → new ≡ old ++ name ∷ [] → made ≡ set lists at new
+pub put_name : (lists made : List (List (List ℕ))) (at : ℕ) (name : List ℕ) (old new : List (List ℕ)) → at < length lists → old ≡ get_or lists at old
+    → new ≡ old ++ name ∷ [] → made ≡ set lists at new
     → (v : ℕ) → v < length lists → get_or made v [] ≡ cond (nat_eq at v) (get_or lists v [] ++ name ∷ []) (get_or lists v [])
 put_name lists made at name old new low is put out v there = same_or_not at v
     (λ e.
@@ -44,7 +46,8 @@ names_push v ts t =
     ap (map (λ (x : Tag). x.name)) (filter-append (λ (x : Tag). nat_eq x.version v) ts (t ∷ []))
     ∙ with_one (nat_eq t.version v) (λ (x : Tag). x.name) (filter (λ (x : Tag). nat_eq x.version v) ts) t
 
-pub names_more : (v : ℕ) (tags : List Tag) (i version : ℕ) (name : List ℕ) (t : Tag) (old new : List (List ℕ)) → i < length tags → t ≡ get_or tags i t → version ≡ t.version → name ≡ t.name
+pub names_more : (v : ℕ) (tags : List Tag) (i version : ℕ) (name : List ℕ) (t : Tag) (old new : List (List ℕ)) → i < length tags → t ≡ get_or tags i t
+    → version ≡ t.version → name ≡ t.name
     → old ≡ names_at v (take i tags) → new ≡ cond (nat_eq version v) (old ++ name ∷ []) old → new ≡ names_at v (take (i + 1) tags)
 names_more v tags i version name t old new low is at named so_far put =
     let e : i + 1 ≡ suc i = omega arith in

@@ -12,7 +12,8 @@ path_of_parent h (Some parent) = path h parent
 
 -- the path of a version is that of its parent, and then the version itself
 abbrev pub PathsGoByParents : Type 0
-PathsGoByParents = (h : History) → IsWhole h → (v : ℕ) (version : Version) → slice_get h.versions v ≡ Some version → path h v ≡ path_of_parent h version.parent ++ v ∷ []
+PathsGoByParents = (h : History) → IsWhole h → (v : ℕ) (version : Version) → slice_get h.versions v ≡ Some version
+    → path h v ≡ path_of_parent h version.parent ++ v ∷ []
 
 -- each number is below all that follow it
 abbrev pub Rises : List ℕ → Type 0
@@ -56,8 +57,10 @@ LastCommonIsLast = (h : History) → IsWhole h → (a b : ℕ) → a < length h.
 
 -- the merge base is the last version on the other's path that is on the base's path or counts as merged
 abbrev pub MergeBaseIsLast : Type 0
-MergeBaseIsLast = (h : History) → IsWhole h → (base : ℕ) (pending : List ℕ) (other : ℕ) → base < length h.versions → other < length h.versions → IsMergeBase h base pending other (merge_base h base pending other)
+MergeBaseIsLast = (h : History) → IsWhole h → (base : ℕ) (pending : List ℕ) (other : ℕ) → base < length h.versions → other < length h.versions
+    → IsMergeBase h base pending other (merge_base h base pending other)
 
 -- it doesn't come before the last common version
 abbrev pub MergeBaseIsAfterCommon : Type 0
-MergeBaseIsAfterCommon = (h : History) → IsWhole h → (base : ℕ) (pending : List ℕ) (other : ℕ) → base < length h.versions → other < length h.versions → last_common h base other ≤ merge_base h base pending other
+MergeBaseIsAfterCommon = (h : History) → IsWhole h → (base : ℕ) (pending : List ℕ) (other : ℕ) → base < length h.versions → other < length h.versions
+    → last_common h base other ≤ merge_base h base pending other

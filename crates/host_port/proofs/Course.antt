@@ -3,7 +3,8 @@ use Rattle.std.proofs.Common.{◌≡◌, inl, inr, ℕ, ◌≤◌, List, sym, �
 use Rattle.std.specs.Prelude.{IsTrue}
 use Rattle.std.proofs.lemmas.Bool.{cases_lt}
 use Rattle.std.proofs.lemmas.List.{append-nil}
-use Rattle.host_port.specs.Host.{Told, Disk, GoesOn, Throughout, KeepsDisk, KeepsSaid, KeepsInput, AddsPart, RaisesTakesAlone, RaisesSaysAlone, RaisesDiskAlone, Rose, disk_now, said_now}
+use Rattle.host_port.specs.Host.{Told, Disk, GoesOn, Throughout, KeepsDisk, KeepsSaid, KeepsInput, AddsPart, RaisesTakesAlone, RaisesSaysAlone}
+use Rattle.host_port.specs.Host.{RaisesDiskAlone, Rose, disk_now, said_now}
 
 -- a host that reports goes on reporting
 pub told_next : (a b : Told) → GoesOn a b → IsTrue a.tells → IsTrue b.tells
@@ -25,7 +26,8 @@ pub weaker : (a b : Told) (P Q : Disk → List ℕ → Type 0) → ((disk : Disk
 weaker a b P Q implies holds told t low high = implies (b.disk t) (b.said t) (holds told t low high)
 
 -- what follows from two facts of each moment
-pub both : (a b : Told) (P Q R : Disk → List ℕ → Type 0) → ((disk : Disk) (said : List ℕ) → P disk said → Q disk said → R disk said) → Throughout a b P → Throughout a b Q → Throughout a b R
+pub both : (a b : Told) (P Q R : Disk → List ℕ → Type 0) → ((disk : Disk) (said : List ℕ) → P disk said → Q disk said → R disk said)
+    → Throughout a b P → Throughout a b Q → Throughout a b R
 both a b P Q R implies p q told t low high = implies (b.disk t) (b.said t) (p told t low high) (q told t low high)
 
 -- what holds at each moment holds at the last

@@ -1,5 +1,6 @@
 -- The file after a crash, call by call.
-use Rattle.std.proofs.Common.{◌≡◌, ◌⊎◌, inl, inr, zero, suc, ℕ, ◌+◌, ◌-◌, ◌<◌, ◌≤◌, max, List, [], ◌∷◌, ◌++◌, length, take, drop, get_or, refl, sym, ◌∙◌, ap, subst, arith, length-append}
+use Rattle.std.proofs.Common.{◌≡◌, ◌⊎◌, inl, inr, zero, suc, ℕ, ◌+◌, ◌-◌, ◌<◌, ◌≤◌, max, List, [], ◌∷◌, ◌++◌, length, take, drop, get_or, refl, sym}
+use Rattle.std.proofs.Common.{◌∙◌, ap, subst, arith, length-append}
 use Rattle.std.specs.Prelude.{Contains, Vec, replicate}
 use Rattle.std.proofs.lemmas.List.{append-nil, take_all, drop_all, length-take, length-replicate, get_or-replicate, get_or_append_left, get_or-append_right}
 use Rattle.std.proofs.lemmas.List.Elements.{Contains-append_cases}
@@ -82,11 +83,13 @@ module _ (x : List ℕ) (at count fill : ℕ) where
         ∙ get_or-replicate (at - length x) (i - length x) fill 0 (omega (arith, before, behind))
   ]
 
-pub filled_written : (disk : Disk) (fill : ℕ) (x : List ℕ) (at : ℕ) (bytes : List ℕ) → IsFilled disk fill x → IsFilled (written disk at bytes) fill (smeared x at (length bytes) fill)
+pub filled_written : (disk : Disk) (fill : ℕ) (x : List ℕ) (at : ℕ) (bytes : List ℕ) → IsFilled disk fill x
+    → IsFilled (written disk at bytes) fill (smeared x at (length bytes) fill)
 filled_written disk fill x at bytes filled = record {
   longest = omega (arith, length-smeared x at (length bytes) fill, filled.longest, furthest-push (length disk.stable) disk.loose span);
   kept = λ i below all.
-      smeared_old x at (length bytes) fill i (omega (arith, below, filled.longest, long_loose disk.loose)) (last_of (λ (s : Span). IsOutside s i) disk.loose span all)
+      smeared_old x at (length bytes) fill i (omega (arith, below, filled.longest, long_loose disk.loose))
+      (last_of (λ (s : Span). IsOutside s i) disk.loose span all)
       ∙ filled.kept i below (front_of (λ (s : Span). IsOutside s i) disk.loose span all);
   past = λ i behind below. elim (cases_lt i (length x)) [
     | inr new ↦ smeared_past x at (length bytes) fill i new below
@@ -98,7 +101,8 @@ filled_written disk fill x at bytes filled = record {
   torn = λ s has i inside. elim (sides span i) [
     | inl here ↦ smeared_inside x at (length bytes) fill i here.0 here.1
     | inr out ↦ elim (Contains-append_cases disk.loose (span ∷ []) s has) [
-      | inl old ↦ smeared_old x at (length bytes) fill i (omega (arith, filled.longest, far_enough (length disk.stable) disk.loose s old, inside.1)) out ∙ filled.torn s old i inside
+      | inl old ↦ smeared_old x at (length bytes) fill i
+          (omega (arith, filled.longest, far_enough (length disk.stable) disk.loose s old, inside.1)) out ∙ filled.torn s old i inside
       | inr new ↦ absurd (apart s i (only span s new) inside out)
     ]
   ];
@@ -139,10 +143,13 @@ pub follows_write : (disk : Disk) (fill : ℕ) (now image : List ℕ) (at : ℕ)
 follows_write disk fill now image at v call count read bytes new_now new_image is counted same_now same_bytes writes smears shown =
     subst (λ k. IsShownAs (after_call disk k) fill new_now new_image) (sym is) (record {
       reads = writes ∙ ap (λ (l : List ℕ). overwritten l at bytes) (same_now ∙ shown.reads) ∙ ap (λ (l : List ℕ). overwritten disk.now at l) same_bytes;
-      leaves = subst (λ (l : List ℕ). IsFilled (written disk at v.items) fill l) (sym (smears ∙ ap (λ (n : ℕ). smeared image at n fill) (counted ∙ ap length same_bytes))) (filled_written disk fill image at v.items shown.leaves);
+      leaves = subst (λ (l : List ℕ). IsFilled (written disk at v.items) fill l)
+          (sym (smears ∙ ap (λ (n : ℕ). smeared image at n fill) (counted ∙ ap length same_bytes)))
+          (filled_written disk fill image at v.items shown.leaves);
     })
 
 pub follows_calls : (first : List ℕ) (fill : ℕ) (done more : List Call) (call : Call) (now image : List ℕ)
-    → more ≡ done ++ call ∷ [] → IsShownAs (after_call (after_calls (at_start first) done) call) fill now image → IsShownAs (after_calls (at_start first) more) fill now image
+    → more ≡ done ++ call ∷ [] → IsShownAs (after_call (after_calls (at_start first) done) call) fill now image
+    → IsShownAs (after_calls (at_start first) more) fill now image
 follows_calls first fill done more call now image is shown =
     subst (λ d. IsShownAs d fill now image) (sym (ap (after_calls (at_start first)) is ∙ after-push (at_start first) done call)) shown

@@ -2,7 +2,8 @@
 use Rattle.std.proofs.Common.{◌≡◌, inl, inr, ℕ, ◌+◌, ◌-◌, ◌<◌, ◌≤◌, min, List, ◌++◌, length, take, drop, get_or, refl, sym, ◌∙◌, ap, arith, length-append}
 use Rattle.std.specs.Prelude.{replicate}
 use Rattle.std.proofs.lemmas.Bool.{cases_lt}
-use Rattle.std.proofs.lemmas.List.{ext_get_or, length-take, length-drop, length-replicate, get_or-take, get_or-drop, get_or-replicate, get_or_append_left, get_or-append_right}
+use Rattle.std.proofs.lemmas.List.{ext_get_or, length-take, length-drop, length-replicate, get_or-take, get_or-drop, get_or-replicate}
+use Rattle.std.proofs.lemmas.List.{get_or_append_left, get_or-append_right}
 use Rattle.host_port.specs.Talk.{padded}
 
 module _ (file : List ℕ) (at n : ℕ) where
@@ -38,19 +39,31 @@ module _ (file : List ℕ) (at n : ℕ) where
 
     pub read_is : take count (drop start file) ++ drop count (replicate n 0) ≡ take n (drop at (padded file (at + n)))
     read_is =
-        let whole : length (take count (drop start file) ++ drop count (replicate n 0)) ≡ n = omega (arith, length-append {A = ℕ} (take count (drop start file)) (drop count (replicate n 0)), front, length-drop {A = ℕ} count (replicate n 0), length-replicate {A = ℕ} n 0, count_is) in
-        let other : length (take n (drop at (padded file (at + n)))) ≡ n = omega (arith, length-take n (drop at (padded file (at + n))), length-drop at (padded file (at + n)), long) in
+        let whole : length (take count (drop start file) ++ drop count (replicate n 0)) ≡ n =
+        omega (
+          arith,
+          length-append {A = ℕ} (take count (drop start file)) (drop count (replicate n 0)),
+          front,
+          length-drop {A = ℕ} count (replicate n 0),
+          length-replicate {A = ℕ} n 0,
+          count_is,
+        ) in
+        let other : length (take n (drop at (padded file (at + n)))) ≡ n =
+        omega (arith, length-take n (drop at (padded file (at + n))), length-drop at (padded file (at + n)), long) in
         ext_get_or 0 _ (take n (drop at (padded file (at + n)))) (whole ∙ sym other)
         (λ i low.
         let below : i < n = omega (arith, low, whole) in
-        let right : get_or (take n (drop at (padded file (at + n)))) i 0 ≡ get_or (padded file (at + n)) (at + i) 0 = get_or-take n (drop at (padded file (at + n))) i 0 below ∙ get_or-drop at (padded file (at + n)) i 0 in
+        let right : get_or (take n (drop at (padded file (at + n)))) i 0 ≡ get_or (padded file (at + n)) (at + i) 0 =
+        get_or-take n (drop at (padded file (at + n))) i 0 below ∙ get_or-drop at (padded file (at + n)) i 0 in
         elim (cases_lt i count) [
           | inl here ↦ read_in i here ∙ sym (right ∙ padded_in i (omega (arith, here, count_is, start_is)))
           | inr past ↦ read_past i past below ∙ sym (right ∙ padded_past i below (omega (arith, past, below, count_is, start_is)))
         ])
 
-pub read_padded : (file : List ℕ) (at n start count : ℕ) (rest copied filled : List ℕ) → start ≡ min at (length file) → rest ≡ drop start file → count ≡ min (length rest) n
+pub read_padded : (file : List ℕ) (at n start count : ℕ) (rest copied filled : List ℕ) → start ≡ min at (length file) → rest ≡ drop start file
+    → count ≡ min (length rest) n
     → copied ≡ take count rest → filled ≡ replicate n 0 → copied ++ drop count filled ≡ take n (drop at (padded file (at + n)))
 read_padded file at n start count rest copied filled start_is rest_is count_is copied_is filled_is =
-    ap (λ (l : List ℕ). l ++ drop count filled) (copied_is ∙ ap (λ (l : List ℕ). take count l) rest_is) ∙ ap (λ (l : List ℕ). take count (drop start file) ++ drop count l) filled_is
+    ap (λ (l : List ℕ). l ++ drop count filled) (copied_is ∙ ap (λ (l : List ℕ). take count l) rest_is)
+    ∙ ap (λ (l : List ℕ). take count (drop start file) ++ drop count l) filled_is
     ∙ read_is file at n start count start_is (omega (arith, count_is, ap length rest_is, length-drop start file))

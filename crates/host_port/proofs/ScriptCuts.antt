@@ -1,4 +1,5 @@
-use Rattle.std.proofs.Common.{◌≡◌, ◌⊎◌, ℕ, ◌+◌, ◌^◌, ◌<◌, ◌≤◌, ◌++◌, List, [], Bool, true, false, get_or, length, take, drop, refl, ap, sym, ◌∙◌, arith, length-append, eqb-true, inl, inr, Result, Ok, Err, IfErr, if◌then◌else◌, append-nil, OnOk, length-drop}
+use Rattle.std.proofs.Common.{◌≡◌, ◌⊎◌, ℕ, ◌+◌, ◌^◌, ◌<◌, ◌≤◌, ◌++◌, List, [], Bool, true, false, get_or, length, take, drop, refl, ap, sym, ◌∙◌}
+use Rattle.std.proofs.Common.{arith, length-append, eqb-true, inl, inr, Result, Ok, Err, IfErr, if◌then◌else◌, append-nil, OnOk, length-drop}
 use Rattle.std.proofs.lemmas.Grind.{common_steps}
 use Rattle.std.proofs.lemmas.List.{get_or_append_left, take-append-le, drop-append-le}
 use Rattle.std.proofs.lemmas.Bool.{ne_eqb}
@@ -18,11 +19,13 @@ position_long xs n h none = grind (arith, passes_at_first is_lf xs 0, none (posi
 pub length-raw_line : (xs : List ℕ) → length (raw_line xs) ≡ position_or_len is_lf xs
 length-raw_line xs = grind (arith, common_steps)
 
-pub line_too_long : (place : ℕ) (raw : List ℕ) (ended : Bool) → line_limit < length raw → place + line_limit < input_limit → line_of place raw ended ≡ Err (LineTooLong (place + line_limit))
+pub line_too_long : (place : ℕ) (raw : List ℕ) (ended : Bool) → line_limit < length raw → place + line_limit < input_limit
+    → line_of place raw ended ≡ Err (LineTooLong (place + line_limit))
 unfolding line_of
 line_too_long place raw ended long within = grind (arith, common_steps)
 
-pub input_too_long : (place : ℕ) (raw : List ℕ) (ended : Bool) → input_limit ≤ place + line_limit → input_limit ≤ place + length raw → line_of place raw ended ≡ Err (InputTooLong input_limit)
+pub input_too_long : (place : ℕ) (raw : List ℕ) (ended : Bool) → input_limit ≤ place + line_limit → input_limit ≤ place + length raw
+    → line_of place raw ended ≡ Err (InputTooLong input_limit)
 unfolding line_of
 input_too_long place raw ended long within = grind (arith, common_steps)
 
@@ -32,24 +35,29 @@ pub line_fault : (place len : ℕ) (pending left : List ℕ) (e : LineFault) →
     → ((line_limit < len) × (e ≡ LineTooLong (place + line_limit))) ⊎ ((len ≤ line_limit) × (2 ^ 40 ≤ place + len) × (e ≡ InputTooLong input_limit))
     → IsLineFault e (next_line_of place (pending ++ left))
 line_fault place len pending left e h none within d =
-    let none' : (k : ℕ) → k < len → get_or (pending ++ left) k 0 ≡ 10 → ⊥ = λ k lt is. none k lt (sym (get_or_append_left pending left 0 k (omega arith)) ∙ is) in
+    let none' : (k : ℕ) → k < len → get_or (pending ++ left) k 0 ≡ 10
+    → ⊥ = λ k lt is. none k lt (sym (get_or_append_left pending left 0 k (omega arith)) ∙ is) in
     let long : len ≤ position_or_len is_lf (pending ++ left) = position_long (pending ++ left) len (omega (arith, length-append pending left)) none' in
     let size = length-raw_line (pending ++ left) in
     elim d [
       | inl a ↦ rw a.1 (line_too_long place (raw_line (pending ++ left)) (is_ended (pending ++ left)) (omega (arith, a.0, size, long)) (omega (arith, a.0)))
-      | inr a ↦ rw a.2 (input_too_long place (raw_line (pending ++ left)) (is_ended (pending ++ left)) (omega (arith, a.0, a.1)) (omega (arith, a.1, size, long)))
+      | inr a ↦ rw a.2 (input_too_long place (raw_line (pending ++ left)) (is_ended (pending ++ left)) (omega (arith, a.0, a.1))
+          (omega (arith, a.1, size, long)))
     ]
 
-pub line_faults : (r : Result (ℕ × Bool) LineFault) (place len : ℕ) (pending left : List ℕ) → len ≤ length pending → ((k : ℕ) → k < len → get_or pending k 0 ≡ 10 → ⊥)
+pub line_faults : (r : Result (ℕ × Bool) LineFault) (place len : ℕ) (pending left : List ℕ) → len ≤ length pending
+    → ((k : ℕ) → k < len → get_or pending k 0 ≡ 10 → ⊥)
     → place + length pending ≤ 2 ^ 40
-    → IfErr r (λ e. ((line_limit < len) × (e ≡ LineTooLong (place + line_limit))) ⊎ ((len ≤ line_limit) × (2 ^ 40 ≤ place + len) × (e ≡ InputTooLong input_limit)))
+    → IfErr r (λ e. ((line_limit < len) × (e ≡ LineTooLong (place + line_limit)))
+    ⊎ ((len ≤ line_limit) × (2 ^ 40 ≤ place + len) × (e ≡ InputTooLong input_limit)))
     → IfErr r (λ e. IsLineFault e (next_line_of place (pending ++ left)))
 line_faults (Ok x) place len pending left h none within d = tt
 line_faults (Err e) place len pending left h none within d = line_fault place len pending left e h none within d
 
 pub ruleset text_lemmas = (utf8_valid_len-IsUtf8, utf8_valid_len_le)
 
-pub line_within : (place : ℕ) (raw : List ℕ) (ended : Bool) → length raw ≤ line_limit → place + length raw < input_limit → line_of place raw ended ≡ line_or_end place raw ended
+pub line_within : (place : ℕ) (raw : List ℕ) (ended : Bool) → length raw ≤ line_limit → place + length raw < input_limit
+    → line_of place raw ended ≡ line_or_end place raw ended
 unfolding line_of
 line_within place raw ended short within = grind (arith, common_steps)
 
@@ -63,12 +71,16 @@ first_at len true pending left found none end =
     (λ k h. rw (get_or_append_left pending left 0 k (omega (arith, found refl))) (ne_eqb _ _ ((found refl).2 k h)))
     (λ h. rw (get_or_append_left pending left 0 len (omega (arith, found refl))) (rw ((found refl).1) refl))
 first_at len false pending left found none end =
-    rw (end refl, append-nil) (position_or_len_is is_lf pending len 0 (omega (arith, none refl)) (λ k h. ne_eqb _ _ ((none refl).1 k h)) (λ h. absurd (omega (arith, none refl))))
+    rw (end refl, append-nil)
+    (position_or_len_is is_lf pending len 0 (omega (arith, none refl)) (λ k h. ne_eqb _ _ ((none refl).1 k h))
+    (λ h. absurd (omega (arith, none refl))))
 
-pub raw_is : (len : ℕ) (pending left : List ℕ) → len ≤ length pending → position_or_len is_lf (pending ++ left) ≡ len → raw_line (pending ++ left) ≡ take len pending
+pub raw_is : (len : ℕ) (pending left : List ℕ) → len ≤ length pending → position_or_len is_lf (pending ++ left) ≡ len
+    → raw_line (pending ++ left) ≡ take len pending
 raw_is len pending left h at = rw at (take-append-le len pending left h)
 
-pub ended_is : (len : ℕ) (ended : Bool) (pending left : List ℕ) → len ≤ length pending → (ended ≡ true → len < length pending) → (ended ≡ false → len ≡ length pending)
+pub ended_is : (len : ℕ) (ended : Bool) (pending left : List ℕ) → len ≤ length pending → (ended ≡ true → len < length pending)
+    → (ended ≡ false → len ≡ length pending)
     → (ended ≡ false → left ≡ []) → position_or_len is_lf (pending ++ left) ≡ len → is_ended (pending ++ left) ≡ ended
 ended_is len true pending left h some none end at =
     let size : length (raw_line (pending ++ left)) ≡ len = length-raw_line (pending ++ left) ∙ at in
@@ -80,7 +92,8 @@ ended_is len false pending left h some none end at =
     grind arith
 
 pub after_is : (len : ℕ) (ended : Bool) (pending left : List ℕ) → (ended ≡ true → len < length pending) → (ended ≡ false → len ≡ length pending)
-    → (ended ≡ false → left ≡ []) → position_or_len is_lf (pending ++ left) ≡ len → after_first is_lf (pending ++ left) ≡ drop (if ended then len + 1 else len) pending ++ left
+    → (ended ≡ false → left ≡ []) → position_or_len is_lf (pending ++ left) ≡ len
+    → after_first is_lf (pending ++ left) ≡ drop (if ended then len + 1 else len) pending ++ left
 after_is len true pending left some none end at = rw at (drop-append-le (len + 1) pending left (omega (arith, some refl)))
 after_is len false pending left some none end at = rw (at, end refl, append-nil, append-nil) (grind (arith, common_steps, none refl))
 
@@ -94,7 +107,9 @@ line_is place len ended pending left found none end h short within =
     let at : position_or_len is_lf (pending ++ left) ≡ len = first_at len ended pending left found none end in
     let raw : raw_line (pending ++ left) ≡ take len pending = raw_is len pending left h at in
     let e : is_ended (pending ++ left) ≡ ended = ended_is len ended pending left h (λ t. (found t).0) (λ f. (none f).0) end at in (
-      ap (λ r. line_of place r (is_ended (pending ++ left))) raw ∙ (ap (λ b. line_of place (take len pending) b) e ∙ line_within place (take len pending) ended (grind (arith, common_steps)) (grind (arith, common_steps))),
+      ap (λ r. line_of place r (is_ended (pending ++ left))) raw
+          ∙ (ap (λ b. line_of place (take len pending) b) e
+          ∙ line_within place (take len pending) ended (grind (arith, common_steps)) (grind (arith, common_steps))),
       after_is len ended pending left (λ t. (found t).0) (λ f. (none f).0) end at,
     )
 

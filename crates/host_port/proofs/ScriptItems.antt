@@ -1,11 +1,13 @@
 -- What the script is whose first line is this.
-use Rattle.std.proofs.Common.{◌≡◌, ℕ, ◌+◌, ◌<◌, List, [], ◌∷◌, Bool, true, false, nat_le, length, refl, ap, sym, ◌∙◌, arith, Result, Ok, Err, Option, Some, None, cond, subst, length-drop, if◌then◌else◌}
+use Rattle.std.proofs.Common.{◌≡◌, ℕ, ◌+◌, ◌<◌, List, [], ◌∷◌, Bool, true, false, nat_le, length, refl, ap, sym, ◌∙◌, arith, Result, Ok, Err, Option}
+use Rattle.std.proofs.Common.{Some, None, cond, subst, length-drop, if◌then◌else◌}
 use Rattle.std.proofs.lemmas.Grind.{common_steps}
 use Rattle.std.proofs.lemmas.List.Splits.{slice_split_first, slice_split_none}
 use Rattle.std.specs.List.{position_or_len, after_first, slice_split, onto_first, All}
 use Rattle.host_port.specs.declared.lines.LineFault.{LineFault}
 use Rattle.host_port.specs.declared.lines.LineFault.TheVariants.{UnendedBlock}
-use Rattle.host_port.specs.Cut.{is_lf, raw_line, is_ended, line_of, next_line_of, Script, cut, cut_block, script_from, with_item, ends_by, after_line, after_block, ends_block, block_line, in_block_by}
+use Rattle.host_port.specs.Cut.{is_lf, raw_line, is_ended, line_of, next_line_of, Script, cut, cut_block, script_from, with_item, ends_by, after_line}
+use Rattle.host_port.specs.Cut.{after_block, ends_block, block_line, in_block_by}
 use Rattle.host_port.specs.Limits.{input_limit}
 use Rattle.std.proofs.lemmas.List.Sums.{fails_before_first}
 use Rattle.std.proofs.lemmas.List.Elements.{All-from_get_or}
@@ -24,7 +26,8 @@ cons_if false x y hx hy = hy
 
 pub split_cons : (xs : List ℕ) → IsCons (slice_split is_lf xs)
 split_cons [] = is_cons [] [] refl
-split_cons (x ∷ xs) = cons_if (is_lf x) ([] ∷ slice_split is_lf xs) (onto_first x (slice_split is_lf xs)) (is_cons [] (slice_split is_lf xs) refl) (cons_onto x (slice_split is_lf xs))
+split_cons (x ∷ xs) = cons_if (is_lf x) ([] ∷ slice_split is_lf xs) (onto_first x (slice_split is_lf xs)) (is_cons [] (slice_split is_lf xs) refl)
+    (cons_onto x (slice_split is_lf xs))
 
 -- after the line feed of raw the script goes on
 pub cut_ended : (takes : List ℕ → Bool) (place : ℕ) (raw : List ℕ) (parts : List (List ℕ)) → IsCons parts
@@ -36,11 +39,13 @@ cut_ended takes place raw parts (is_cons a rest e) = subst (λ (ps : List (List 
     (λ line. cut_block takes line (place + length raw + 1) (place + length raw + 1) (Ok []) ps)
     (cut takes (place + length raw + 1) ps)) (sym e) refl
 
-pub cut_last : (takes : List ℕ → Bool) (place : ℕ) (raw : List ℕ) → cut takes place (raw ∷ []) ≡ after_line takes (line_of place raw false) (λ line. ends_by (Some (UnendedBlock (place + length raw)))) (ends_by None)
+pub cut_last : (takes : List ℕ → Bool) (place : ℕ) (raw : List ℕ)
+    → cut takes place (raw ∷ []) ≡ after_line takes (line_of place raw false) (λ line. ends_by (Some (UnendedBlock (place + length raw)))) (ends_by None)
 unfolding cut
 cut_last takes place raw = refl
 
-pub cut_block_last : (takes : List ℕ → Bool) (line : List ℕ) (start place : ℕ) (text : Result (List ℕ) LineFault) (raw : List ℕ) → cut_block takes line start place text (raw ∷ []) ≡
+pub cut_block_last : (takes : List ℕ → Bool) (line : List ℕ) (start place : ℕ) (text : Result (List ℕ) LineFault) (raw : List ℕ)
+    → cut_block takes line start place text (raw ∷ []) ≡
     (if ends_block place false raw then after_block line text (ends_by None)
     else in_block_by (block_line start place false text raw) (λ _. ends_by (Some (UnendedBlock (place + length raw)))))
 unfolding cut_block
@@ -92,15 +97,19 @@ script_line takes place place' unread line is plain at = go (is_ended unread) re
         let s = ended_splits unread e in
         let of : line_of place (raw_line unread) true ≡ Ok (Some line) = subst (λ (b : Bool). line_of place (raw_line unread) b ≡ Ok (Some line)) e is in
         let there : place' ≡ place + length (raw_line unread) + 1 = omega (arith, s.total) in
-        rw s.split (rw there (cut_ended takes place (raw_line unread) (slice_split is_lf (after_first is_lf unread)) (split_cons (after_first is_lf unread)) ∙ rw (of, plain) refl))
+        rw s.split (rw there (cut_ended takes place (raw_line unread) (slice_split is_lf (after_first is_lf unread))
+        (split_cons (after_first is_lf unread)) ∙ rw (of, plain) refl))
     go false e =
         let s = unended_splits unread e in
         let of : line_of place (raw_line unread) false ≡ Ok (Some line) = subst (λ (b : Bool). line_of place (raw_line unread) b ≡ Ok (Some line)) e is in
         let within = line_some_within place (raw_line unread) false (Some line) of in
-        let there : place' ≡ place + length (raw_line unread) = rw s.raw (let at' : place' + 0 ≡ place + length unread = rw (sym (ap length s.after)) at in omega arith) in
-        rw s.split (cut_last takes place (raw_line unread) ∙ rw (of, plain) (ap (λ x. with_item line None x) (rw s.after (sym (cut_nothing takes place' (omega arith))))))
+        let there : place' ≡ place + length (raw_line unread) =
+        rw s.raw (let at' : place' + 0 ≡ place + length unread = rw (sym (ap length s.after)) at in omega arith) in
+        rw s.split (cut_last takes place (raw_line unread)
+        ∙ rw (of, plain) (ap (λ x. with_item line None x) (rw s.after (sym (cut_nothing takes place' (omega arith))))))
 
-script_ends : (takes : List ℕ → Bool) (place : ℕ) (unread : List ℕ) (next : Result (Option (List ℕ)) LineFault) (end : Script) → next_line_of place unread ≡ next
+script_ends : (takes : List ℕ → Bool) (place : ℕ) (unread : List ℕ) (next : Result (Option (List ℕ)) LineFault) (end : Script)
+    → next_line_of place unread ≡ next
     → ((block : List ℕ → Script) (rest : Script) → after_line takes next block rest ≡ end) → script_from takes place unread ≡ end
 script_ends takes place unread next end is gives = go (is_ended unread) refl
   where
@@ -108,7 +117,8 @@ script_ends takes place unread next end is gives = go (is_ended unread) refl
     go true e =
         let s = ended_splits unread e in
         let of : line_of place (raw_line unread) true ≡ next = subst (λ (b : Bool). line_of place (raw_line unread) b ≡ next) e is in
-        rw s.split (cut_ended takes place (raw_line unread) (slice_split is_lf (after_first is_lf unread)) (split_cons (after_first is_lf unread)) ∙ rw of (gives _ _))
+        rw s.split (cut_ended takes place (raw_line unread) (slice_split is_lf (after_first is_lf unread)) (split_cons (after_first is_lf unread))
+        ∙ rw of (gives _ _))
     go false e =
         let s = unended_splits unread e in
         let of : line_of place (raw_line unread) false ≡ next = subst (λ (b : Bool). line_of place (raw_line unread) b ≡ next) e is in
@@ -117,12 +127,14 @@ script_ends takes place unread next end is gives = go (is_ended unread) refl
 pub script_end : (takes : List ℕ → Bool) (place : ℕ) (unread : List ℕ) → next_line_of place unread ≡ Ok None → script_from takes place unread ≡ ends_by None
 script_end takes place unread is = script_ends takes place unread (Ok None) (ends_by None) is (λ block rest. refl)
 
-pub script_fault : (takes : List ℕ → Bool) (place : ℕ) (unread : List ℕ) (fault : LineFault) → next_line_of place unread ≡ Err fault → script_from takes place unread ≡ ends_by (Some fault)
+pub script_fault : (takes : List ℕ → Bool) (place : ℕ) (unread : List ℕ) (fault : LineFault) → next_line_of place unread ≡ Err fault
+    → script_from takes place unread ≡ ends_by (Some fault)
 script_fault takes place unread fault is = script_ends takes place unread (Err fault) (ends_by (Some fault)) is (λ block rest. refl)
 
 -- ---- blocks
 
-pub cut_block_ended : (takes : List ℕ → Bool) (line : List ℕ) (start place : ℕ) (text : Result (List ℕ) LineFault) (raw : List ℕ) (parts : List (List ℕ)) → IsCons parts
+pub cut_block_ended : (takes : List ℕ → Bool) (line : List ℕ) (start place : ℕ) (text : Result (List ℕ) LineFault) (raw : List ℕ)
+    (parts : List (List ℕ)) → IsCons parts
     → cut_block takes line start place text (raw ∷ parts) ≡
     (if ends_block place true raw then after_block line text (cut takes (place + length raw + 1) parts)
     else in_block_by (block_line start place true text raw) (λ more. cut_block takes line start (place + length raw + 1) more parts))
@@ -133,14 +145,16 @@ cut_block_ended takes line start place text raw parts (is_cons a rest e) =
     else in_block_by (block_line start place true text raw) (λ more. cut_block takes line start (place + length raw + 1) more ps))) (sym e) refl
 
 -- a block goes on after a line of it
-pub block_goes : (takes : List ℕ → Bool) (line : List ℕ) (start place place' : ℕ) (text more : Result (List ℕ) LineFault) (unread : List ℕ) → is_ended unread ≡ true
+pub block_goes : (takes : List ℕ → Bool) (line : List ℕ) (start place place' : ℕ) (text more : Result (List ℕ) LineFault) (unread : List ℕ)
+    → is_ended unread ≡ true
     → ends_block place true (raw_line unread) ≡ false → block_line start place true text (raw_line unread) ≡ Ok more
     → place' + length (after_first is_lf unread) ≡ place + length unread
     → cut_block takes line start place text (slice_split is_lf unread) ≡ cut_block takes line start place' more (slice_split is_lf (after_first is_lf unread))
 block_goes takes line start place place' text more unread e dot is at =
     let s = ended_splits unread e in
     let there : place' ≡ place + length (raw_line unread) + 1 = omega (arith, s.total) in
-    rw s.split (rw there (cut_block_ended takes line start place text (raw_line unread) (slice_split is_lf (after_first is_lf unread)) (split_cons (after_first is_lf unread)) ∙ rw (dot, is) refl))
+    rw s.split (rw there (cut_block_ended takes line start place text (raw_line unread) (slice_split is_lf (after_first is_lf unread))
+    (split_cons (after_first is_lf unread)) ∙ rw (dot, is) refl))
 
 -- a block ends at its dot
 pub block_ends : (takes : List ℕ → Bool) (line : List ℕ) (start place place' : ℕ) (text : Result (List ℕ) LineFault) (unread : List ℕ)
@@ -149,14 +163,18 @@ pub block_ends : (takes : List ℕ → Bool) (line : List ℕ) (start place plac
     → cut_block takes line start place text (slice_split is_lf unread) ≡ after_block line text (script_from takes place' (after_first is_lf unread))
 block_ends takes line start place place' text unread dot within at = go (is_ended unread) refl
   where
-    go : (e : Bool) → is_ended unread ≡ e → cut_block takes line start place text (slice_split is_lf unread) ≡ after_block line text (script_from takes place' (after_first is_lf unread))
+    go : (e : Bool) → is_ended unread ≡ e
+        → cut_block takes line start place text (slice_split is_lf unread) ≡ after_block line text (script_from takes place' (after_first is_lf unread))
     go true e =
         let s = ended_splits unread e in
         let dot : ends_block place true (raw_line unread) ≡ true = subst (λ (b : Bool). ends_block place b (raw_line unread) ≡ true) e dot in
         let there : place' ≡ place + length (raw_line unread) + 1 = omega (arith, s.total) in
-        rw s.split (rw there (cut_block_ended takes line start place text (raw_line unread) (slice_split is_lf (after_first is_lf unread)) (split_cons (after_first is_lf unread)) ∙ rw dot refl))
+        rw s.split (rw there (cut_block_ended takes line start place text (raw_line unread) (slice_split is_lf (after_first is_lf unread))
+        (split_cons (after_first is_lf unread)) ∙ rw dot refl))
     go false e =
         let s = unended_splits unread e in
-        let there : place' ≡ place + length (raw_line unread) = rw s.raw (let at' : place' + 0 ≡ place + length unread = rw (sym (ap length s.after)) at in omega arith) in
+        let there : place' ≡ place + length (raw_line unread) =
+        rw s.raw (let at' : place' + 0 ≡ place + length unread = rw (sym (ap length s.after)) at in omega arith) in
         let dot : ends_block place false (raw_line unread) ≡ true = subst (λ (b : Bool). ends_block place b (raw_line unread) ≡ true) e dot in
-        rw s.split (cut_block_last takes line start place text (raw_line unread) ∙ rw dot (ap (λ x. after_block line text x) (rw s.after (sym (cut_nothing takes place' (omega arith))))))
+        rw s.split (cut_block_last takes line start place text (raw_line unread)
+        ∙ rw dot (ap (λ x. after_block line text x) (rw s.after (sym (cut_nothing takes place' (omega arith))))))

@@ -1,5 +1,6 @@
 -- Lines of a block that are plain, taken at once.
-use Rattle.std.proofs.Common.{◌≡◌, ℕ, ◌+◌, ◌-◌, ◌^◌, ◌<◌, ◌≤◌, ◌++◌, List, [], ◌∷◌, Bool, true, false, nat_lt, nat_le, get_or, length, take, drop, refl, ap, sym, ◌∙◌, arith, Result, Ok, Err, length-append, length-take-le, append_assoc, append-nil, subst}
+use Rattle.std.proofs.Common.{◌≡◌, ℕ, ◌+◌, ◌-◌, ◌^◌, ◌<◌, ◌≤◌, ◌++◌, List, [], ◌∷◌, Bool, true, false, nat_lt, nat_le, get_or, length, take, drop}
+use Rattle.std.proofs.Common.{refl, ap, sym, ◌∙◌, arith, Result, Ok, Err, length-append, length-take-le, append_assoc, append-nil, subst}
 use borrow.Author.Count.{below_more}
 use Rattle.std.proofs.lemmas.Bool.{false_from_ne_true, le-ltb, ne_eqb}
 use Rattle.std.proofs.lemmas.List.{take-append-drop, get_or-take, get_or-drop}
@@ -33,7 +34,8 @@ cut_at_feed : (bytes : List ℕ) (end i : ℕ) → end ≤ i → i < length byte
     → take (i + 1) bytes ≡ take end bytes ++ (take (i - end) (drop end bytes) ++ 10 ∷ [])
 cut_at_feed bytes end i h within feed =
     let n : i + 1 ≡ end + (i - end + 1) = omega arith in
-    let at : get_or (drop end bytes) (i - end) 0 ≡ 10 = get_or-drop end bytes (i - end) 0 ∙ (ap (λ (k : ℕ). get_or bytes k 0) (let e : end + (i - end) ≡ i = omega arith in e) ∙ feed) in
+    let at : get_or (drop end bytes) (i - end) 0 ≡ 10 =
+    get_or-drop end bytes (i - end) 0 ∙ (ap (λ (k : ℕ). get_or bytes k 0) (let e : end + (i - end) ≡ i = omega arith in e) ∙ feed) in
     let last : take (i - end + 1) (drop end bytes) ≡ take (i - end) (drop end bytes) ++ 10 ∷ [] =
     grind (arith, common_steps) in
     rw n (take-add end (i - end + 1) bytes ∙ ap (λ (xs : List ℕ). take end bytes ++ xs) last)
@@ -60,7 +62,8 @@ plain_more bytes end i h within front clear feed whole no_end =
 -- where the byte at i is no line feed
 pub clear_more : (bytes : List ℕ) (end i : ℕ) → ((k : ℕ) → end ≤ k → k < i → get_or bytes k 0 ≡ 10 → ⊥) → (get_or bytes i 0 ≡ 10 → ⊥)
     → (k : ℕ) → end ≤ k → k < i + 1 → get_or bytes k 0 ≡ 10 → ⊥
-clear_more bytes end i clear here k low high = below_more (λ (j : ℕ). end ≤ j → get_or bytes j 0 ≡ 10 → ⊥) i (λ j lt from. clear j from lt) (λ from. here) k high low
+clear_more bytes end i clear here k low high =
+    below_more (λ (j : ℕ). end ≤ j → get_or bytes j 0 ≡ 10 → ⊥) i (λ j lt from. clear j from lt) (λ from. here) k high low
 
 -- ---- text that is cut at a line feed
 
@@ -68,25 +71,30 @@ utf8_front : (raw rest : List ℕ) → IsUtf8 (raw ++ 10 ∷ rest) → IsUtf8 ra
 utf8_front raw rest u =
     let within : length raw < length (raw ++ 10 ∷ rest) = rw length-append (omega arith) in
     let low : get_or (raw ++ 10 ∷ rest) (length raw) 0 < 128 = rw get_or-append_seam (omega arith) in
-    subst (λ (xs : List ℕ). IsUtf8 xs) (take-append_seam raw (10 ∷ rest)) (IsUtf8-take (raw ++ 10 ∷ rest) (length raw) u (IsCharBoundary-before_ascii (raw ++ 10 ∷ rest) (length raw) within low))
+    subst (λ (xs : List ℕ). IsUtf8 xs) (take-append_seam raw (10 ∷ rest))
+    (IsUtf8-take (raw ++ 10 ∷ rest) (length raw) u (IsCharBoundary-before_ascii (raw ++ 10 ∷ rest) (length raw) within low))
 
 utf8_back : (raw rest : List ℕ) → IsUtf8 (raw ++ 10 ∷ rest) → IsUtf8 rest
 utf8_back raw rest u =
     let within : length raw < length (raw ++ 10 ∷ rest) = rw length-append (omega arith) in
     let low : get_or (raw ++ 10 ∷ rest) (length raw) 0 < 128 = rw get_or-append_seam (omega arith) in
-    subst (λ (xs : List ℕ). IsUtf8 xs) (drop-append-add raw (10 ∷ rest) 1) (IsUtf8-drop (raw ++ 10 ∷ rest) (length raw + 1) u (IsCharBoundary-after_ascii (raw ++ 10 ∷ rest) (length raw) u within low))
+    subst (λ (xs : List ℕ). IsUtf8 xs) (drop-append-add raw (10 ∷ rest) 1)
+    (IsUtf8-drop (raw ++ 10 ∷ rest) (length raw + 1) u (IsCharBoundary-after_ascii (raw ++ 10 ∷ rest) (length raw) u within low))
 
 -- ---- a run is steps of the script
 
 text_is : (place : ℕ) (raw : List ℕ) → IsUtf8 raw → text_at place raw ≡ Ok raw
 text_is place raw u = grind (arith, common_steps, utf8_valid_len-IsUtf8 raw u)
 
-adds_rest : (place : ℕ) (text new : Result (List ℕ) LineFault) (raw rest : List ℕ) → AddsRun text (raw ++ 10 ∷ rest) new → AddsRun (text_with place text raw) rest new
+adds_rest : (place : ℕ) (text new : Result (List ℕ) LineFault) (raw rest : List ℕ) → AddsRun text (raw ++ 10 ∷ rest) new
+    → AddsRun (text_with place text raw) rest new
 adds_rest place (Err e) new raw rest h = h
 adds_rest place (Ok text) new raw rest h =
-    rw (text_is place raw (utf8_front raw rest h.0)) (utf8_back raw rest h.0, h.1 ∙ ap (λ (xs : List ℕ). Ok xs) (sym (append_assoc (text ++ raw) (10 ∷ []) rest ∙ append_assoc text raw (10 ∷ rest))))
+    rw (text_is place raw (utf8_front raw rest h.0))
+    (utf8_back raw rest h.0, h.1 ∙ ap (λ (xs : List ℕ). Ok xs) (sym (append_assoc (text ++ raw) (10 ∷ []) rest ∙ append_assoc text raw (10 ∷ rest))))
 
-plain_line : (start place : ℕ) (text : Result (List ℕ) LineFault) (raw : List ℕ) → IsPlain raw → place + length raw + 1 ≤ start + block_limit → place + length raw + 1 ≤ 2 ^ 40
+plain_line : (start place : ℕ) (text : Result (List ℕ) LineFault) (raw : List ℕ) → IsPlain raw → place + length raw + 1 ≤ start + block_limit
+    → place + length raw + 1 ≤ 2 ^ 40
     → block_line start place true text raw ≡ Ok (text_with place text raw)
 plain_line start place text raw is near within =
     let l : nat_lt block_limit (past_line place true raw - start) ≡ false = le-ltb _ _ (omega arith) in
@@ -97,9 +105,11 @@ adds_none : (text new : Result (List ℕ) LineFault) → AddsRun text [] new →
 adds_none (Err e) new h = h
 adds_none (Ok text) new h = h.1 ∙ ap (λ (xs : List ℕ). Ok xs) (append-nil text)
 
-cut_run : (takes : List ℕ → Bool) (line : List ℕ) (start place : ℕ) (text new : Result (List ℕ) LineFault) (raws : List (List ℕ)) (rest : List ℕ) → All IsPlain raws
+cut_run : (takes : List ℕ → Bool) (line : List ℕ) (start place : ℕ) (text new : Result (List ℕ) LineFault) (raws : List (List ℕ)) (rest : List ℕ)
+    → All IsPlain raws
     → place + length (with_feeds raws) ≤ start + block_limit → place + length (with_feeds raws) ≤ 2 ^ 40 → AddsRun text (with_feeds raws) new
-    → cut_block takes line start place text (slice_split is_lf (with_feeds raws ++ rest)) ≡ cut_block takes line start (place + length (with_feeds raws)) new (slice_split is_lf rest)
+    → cut_block takes line start place text (slice_split is_lf (with_feeds raws ++ rest)) ≡ cut_block takes line start
+    (place + length (with_feeds raws)) new (slice_split is_lf rest)
 cut_run takes line start place text new [] rest plain near within adds =
     let none : place + 0 ≡ place = omega arith in
     rw (adds_none text new adds, none) refl
@@ -107,14 +117,18 @@ cut_run takes line start place text new (raw ∷ raws) rest plain near within ad
     let is = All-head IsPlain raw raws plain in
     let size : length (raw ++ 10 ∷ with_feeds raws) ≡ length raw + 1 + length (with_feeds raws) = rw length-append (omega arith) in
     let parts : slice_split is_lf ((raw ++ 10 ∷ with_feeds raws) ++ rest) ≡ raw ∷ slice_split is_lf (with_feeds raws ++ rest) =
-    ap (λ (xs : List ℕ). slice_split is_lf xs) (append_assoc raw (10 ∷ with_feeds raws) rest) ∙ slice_split_at is_lf raw 10 (with_feeds raws ++ rest) is.no_feed refl in
+    ap (λ (xs : List ℕ). slice_split is_lf xs) (append_assoc raw (10 ∷ with_feeds raws) rest)
+    ∙ slice_split_at is_lf raw 10 (with_feeds raws ++ rest) is.no_feed refl in
     let no_end : ends_block place true raw ≡ false = rw (is.whole, is.no_end) refl in
     let goes : block_line start place true text raw ≡ Ok (text_with place text raw) = plain_line start place text raw is (omega arith) (omega arith) in
-    rw parts (cut_block_ended takes line start place text raw (slice_split is_lf (with_feeds raws ++ rest)) (split_cons (with_feeds raws ++ rest)) ∙ (rw (no_end, goes)
-    (cut_run takes line start (place + length raw + 1) (text_with place text raw) new raws rest (All-tail IsPlain raw raws plain) (omega arith) (omega arith) (adds_rest place text new raw (with_feeds raws) adds)
+    rw parts (cut_block_ended takes line start place text raw (slice_split is_lf (with_feeds raws ++ rest)) (split_cons (with_feeds raws ++ rest))
+    ∙ (rw (no_end, goes)
+    (cut_run takes line start (place + length raw + 1) (text_with place text raw) new raws rest (All-tail IsPlain raw raws plain) (omega arith)
+    (omega arith) (adds_rest place text new raw (with_feeds raws) adds)
     ∙ ap (λ (k : ℕ). cut_block takes line start k new (slice_split is_lf rest)) (behind size))))
   where
-    behind : length (raw ++ 10 ∷ with_feeds raws) ≡ length raw + 1 + length (with_feeds raws) → place + length raw + 1 + length (with_feeds raws) ≡ place + length (raw ++ 10 ∷ with_feeds raws)
+    behind : length (raw ++ 10 ∷ with_feeds raws) ≡ length raw + 1 + length (with_feeds raws)
+        → place + length raw + 1 + length (with_feeds raws) ≡ place + length (raw ++ 10 ∷ with_feeds raws)
     behind size = omega arith
 
 pub run_goes : (takes : List ℕ → Bool) (line : List ℕ) (start place place' n : ℕ) (old new : Result (List ℕ) LineFault) (pending pending' left : List ℕ)
@@ -123,8 +137,10 @@ pub run_goes : (takes : List ℕ → Bool) (line : List ℕ) (start place place'
     → cut_block takes line start place old (slice_split is_lf (pending ++ left)) ≡ cut_block takes line start place' new (slice_split is_lf (pending' ++ left))
 run_goes takes line start place place' n old new pending pending' left h plain adds near within moved there =
     let parts : pending ++ left ≡ with_feeds plain.raws ++ (pending' ++ left) = rw moved
-    (ap (λ (xs : List ℕ). xs ++ left) (sym (take-append-drop n pending)) ∙ (append_assoc (take n pending) (drop n pending) left ∙ ap (λ (xs : List ℕ). xs ++ (drop n pending ++ left)) plain.are)) in
+    (ap (λ (xs : List ℕ). xs ++ left) (sym (take-append-drop n pending))
+    ∙ (append_assoc (take n pending) (drop n pending) left ∙ ap (λ (xs : List ℕ). xs ++ (drop n pending ++ left)) plain.are)) in
     let size : length (with_feeds plain.raws) ≡ n = ap length (sym plain.are) ∙ length-take-le n pending h in
     let at : place + length (with_feeds plain.raws) ≡ place' = omega arith in
-    rw parts (cut_run takes line start place old new plain.raws (pending' ++ left) plain.plain (omega arith) (omega arith) (subst (λ (xs : List ℕ). AddsRun old xs new) plain.are adds)
+    rw parts (cut_run takes line start place old new plain.raws (pending' ++ left) plain.plain (omega arith) (omega arith)
+    (subst (λ (xs : List ℕ). AddsRun old xs new) plain.are adds)
     ∙ ap (λ (k : ℕ). cut_block takes line start k new (slice_split is_lf (pending' ++ left))) at)

@@ -14,17 +14,32 @@ furthest-push n (s ∷ spans) span = omega (arith, furthest-push n spans span)
 
 -- a file that is overwritten gets no shorter
 longer : (old : List ℕ) (at : ℕ) (bytes : List ℕ) → length old ≤ length (overwritten old at bytes)
-longer old at bytes = omega (arith, length-append (take at old ++ bytes) (drop (at + length bytes) old), length-append (take at old) bytes, length-take at old, length-drop (at + length bytes) old)
+longer old at bytes = omega (
+  arith,
+  length-append (take at old ++ bytes) (drop (at + length bytes) old),
+  length-append (take at old) bytes,
+  length-take at old,
+  length-drop (at + length bytes) old,
+)
 
 -- and no longer than it was, or than to the end of what is written
 not_past : (old : List ℕ) (at : ℕ) (bytes : List ℕ) → length (overwritten old at bytes) ≤ max (length old) (at + length bytes)
-not_past old at bytes = omega (arith, length-append (take at old ++ bytes) (drop (at + length bytes) old), length-append (take at old) bytes, length-take at old, length-drop (at + length bytes) old)
+not_past old at bytes =
+    omega (
+      arith,
+      length-append (take at old ++ bytes) (drop (at + length bytes) old),
+      length-append (take at old) bytes,
+      length-take at old,
+      length-drop (at + length bytes) old,
+    )
 
 -- its bytes outside the range stay
-pub kept_outside : (old : List ℕ) (at : ℕ) (bytes : List ℕ) (i : ℕ) → i < length old → IsOutside (record { from = at; to = at + length bytes }) i → get_or (overwritten old at bytes) i 0 ≡ get_or old i 0
+pub kept_outside : (old : List ℕ) (at : ℕ) (bytes : List ℕ) (i : ℕ) → i < length old → IsOutside (record { from = at; to = at + length bytes }) i
+    → get_or (overwritten old at bytes) i 0 ≡ get_or old i 0
 kept_outside old at bytes i below (inl before) =
     let front : i < length (take at old) = omega (arith, length-take at old) in
-    get_or_append_left (take at old ++ bytes) _ 0 i (omega (arith, length-append (take at old) bytes)) ∙ get_or_append_left (take at old) bytes 0 i front ∙ get_or-take at old i 0 before
+    get_or_append_left (take at old ++ bytes) _ 0 i (omega (arith, length-append (take at old) bytes))
+    ∙ get_or_append_left (take at old) bytes 0 i front ∙ get_or-take at old i 0 before
 kept_outside old at bytes i below (inr behind) =
     let long : length (take at old ++ bytes) ≡ at + length bytes = omega (arith, length-append (take at old) bytes, length-take at old) in
     get_or-append_right (take at old ++ bytes) _ (at + length bytes) i 0 long behind ∙ get_or-drop (at + length bytes) old (i - (at + length bytes)) 0
@@ -49,9 +64,15 @@ step disk (Say bytes) left = left
 step disk Sync left = record { no_shorter = omega arith; no_longer = omega arith; kept = λ i below all. refl }
 step disk (Write at bytes) left = record {
   no_shorter = omega (arith, left.no_shorter, longer disk.now at bytes.items);
-  no_longer = omega (arith, left.no_longer, not_past disk.now at bytes.items, furthest-push (length disk.stable) disk.loose (record { from = at; to = at + length bytes.items }));
+  no_longer = omega (
+    arith,
+    left.no_longer,
+    not_past disk.now at bytes.items,
+    furthest-push (length disk.stable) disk.loose (record { from = at; to = at + length bytes.items }),
+  );
   kept = λ i below all.
-      kept_outside disk.now at bytes.items i (omega (arith, below, left.no_shorter)) (last_of (λ (s : Span). IsOutside s i) disk.loose (record { from = at; to = at + length bytes.items }) all)
+      kept_outside disk.now at bytes.items i (omega (arith, below, left.no_shorter))
+      (last_of (λ (s : Span). IsOutside s i) disk.loose (record { from = at; to = at + length bytes.items }) all)
       ∙ left.kept i below (front_of (λ (s : Span). IsOutside s i) disk.loose (record { from = at; to = at + length bytes.items }) all);
 }
 

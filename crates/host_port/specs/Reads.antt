@@ -1,5 +1,6 @@
 -- What a reader of lines has done.
-use Rattle.std.specs.Prelude.{◌≡◌, ◌⊎◌, ◌<◌, ◌≤◌, ℕ, ◌+◌, List, [], ◌∷◌, ◌++◌, All, length, Bool, true, false, Option, Some, None, Result, Ok, Err, string_bytes}
+use Rattle.std.specs.Prelude.{◌≡◌, ◌⊎◌, ◌<◌, ◌≤◌, ℕ, ◌+◌, List, [], ◌∷◌, ◌++◌, All, length, Bool, true, false, Option, Some, None, Result, Ok, Err}
+use Rattle.std.specs.Prelude.{string_bytes}
 use Rattle.std.specs.List.{after_first}
 use Rattle.std.specs.Str.{IsUtf8}
 use Rattle.host_port.specs.declared.lines.LineFault.{LineFault}
@@ -62,7 +63,8 @@ is_feed Far = false
 
 -- a line of a block that is too long to be one, or stands across the input's limit
 abbrev pub FarFault : ℕ → LineFault → Type 0
-FarFault start e = ((e ≡ BlockTooLong (start + block_limit)) × (start + block_limit < input_limit)) ⊎ ((e ≡ InputTooLong input_limit) × (input_limit ≤ start + block_limit))
+FarFault start e = ((e ≡ BlockTooLong (start + block_limit)) × (start + block_limit < input_limit))
+    ⊎ ((e ≡ InputTooLong input_limit) × (input_limit ≤ start + block_limit))
 
 -- the fault of a line of a block, by what its bytes stopped at
 abbrev pub BlockFault : Stop → ℕ → ℕ → Result (List ℕ) LineFault → List ℕ → LineFault → Type 0
@@ -74,7 +76,8 @@ BlockFault Close start place text raw e = (ends_block place false raw ≡ false)
 -- what a line of a block with the bytes raw is: its end, a line more, or a fault
 abbrev pub BlockLine : Stop → ℕ → ℕ → Result (List ℕ) LineFault → Result (List ℕ) LineFault → List ℕ → Result Bool LineFault → Type 0
 BlockLine stop start place old new raw (Ok true) = (ends_block place (is_feed stop) raw ≡ true) × (new ≡ old) × (stop ≡ Far → ⊥)
-BlockLine stop start place old new raw (Ok false) = (ends_block place (is_feed stop) raw ≡ false) × (block_line start place (is_feed stop) old raw ≡ Ok new) × (stop ≡ Feed)
+BlockLine stop start place old new raw (Ok false) =
+    (ends_block place (is_feed stop) raw ≡ false) × (block_line start place (is_feed stop) old raw ≡ Ok new) × (stop ≡ Feed)
 BlockLine stop start place old new raw (Err Memory) = Unit {0}
 BlockLine stop start place old new raw (Err e) = BlockFault stop start place old raw e
 

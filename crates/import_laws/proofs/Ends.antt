@@ -1,6 +1,7 @@
 -- The end of the root: its rank, and the entries with their ranks.
 use Rattle.std.proofs.lemmas.Bool.Decides.{nat_tests}
-use Rattle.std.proofs.Common.{◌≡◌, ℕ, ◌+◌, ◌*◌, ◌<◌, ◌≤◌, Bool, true, false, cond, List, [], ◌∷◌, ◌++◌, refl, sym, ap, ◌∙◌, arith, nat_eq, nat_lt, length, rules}
+use Rattle.std.proofs.Common.{◌≡◌, ℕ, ◌+◌, ◌*◌, ◌<◌, ◌≤◌, Bool, true, false, cond, List, [], ◌∷◌, ◌++◌, refl, sym, ap, ◌∙◌, arith, nat_eq, nat_lt}
+use Rattle.std.proofs.Common.{length, rules}
 use Rattle.std.specs.Prelude.{Option, None, Some, is_some, unwrap_or, ◌^◌}
 use Rattle.model_state.specs.declared.entry.Entry.{Entry}
 use Rattle.model_state.specs.declared.step.Step.{Step}
@@ -22,14 +23,16 @@ itself n = search rules
 
 pub no_reranks : (xs : List Entry) → rerank_places xs (ranks_of xs) ≡ []
 no_reranks [] = refl
-no_reranks (x ∷ xs) = ap (λ (b : Bool). cond b (rerank_places xs (ranks_of xs)) (RerankPlace x.id x.rank x.rank ∷ rerank_places xs (ranks_of xs))) (itself x.rank) ∙ no_reranks xs
+no_reranks (x ∷ xs) = ap (λ (b : Bool). cond b (rerank_places xs (ranks_of xs)) (RerankPlace x.id x.rank x.rank ∷ rerank_places xs (ranks_of xs)))
+    (itself x.rank) ∙ no_reranks xs
 
 -- where there is a rank after the last, the others keep theirs
 pub kept_end : (xs : List Entry) (r : ℕ) → rank_for (ranks_of xs) (length xs) ≡ Some r → end_spot xs ≡ record { ranks = ranks_of xs; rank = Some r }
 kept_end xs r is = ap (λ o. spot_by o xs (length xs)) is
 
 even_rank : (n : ℕ) → n < most_entries → rank_between (n * rank_gap) (cond (nat_lt n n) (Some ((n + 1) * rank_gap)) None) ≡ Some ((n + 1) * rank_gap)
-even_rank n small = ap (λ (b : Bool). rank_between (n * rank_gap) (cond b (Some ((n + 1) * rank_gap)) None)) (not_below n) ∙ ap (λ (b : Bool). cond b (Some (n * rank_gap + rank_gap)) None) (fits n small) ∙ ap (λ r. Some r) (next n)
+even_rank n small = ap (λ (b : Bool). rank_between (n * rank_gap) (cond b (Some ((n + 1) * rank_gap)) None)) (not_below n)
+    ∙ ap (λ (b : Bool). cond b (Some (n * rank_gap + rank_gap)) None) (fits n small) ∙ ap (λ r. Some r) (next n)
   where
     not_below : (n : ℕ) → nat_lt n n ≡ false
     not_below n = grind (arith, nat_tests)
@@ -48,11 +51,13 @@ even_end xs even small = ap (λ rs. rank_for rs (length xs)) even ∙ even_for x
     itself_le n = omega arith
 
 -- else they are spread evenly, and the new one with them
-pub new_end : (xs : List Entry) → rank_for (ranks_of xs) (length xs) ≡ None → length xs < most_entries → end_spot xs ≡ record { ranks = evened 1 xs; rank = Some ((length xs + 1) * rank_gap) }
+pub new_end : (xs : List Entry) → rank_for (ranks_of xs) (length xs) ≡ None → length xs < most_entries
+    → end_spot xs ≡ record { ranks = evened 1 xs; rank = Some ((length xs + 1) * rank_gap) }
 new_end xs none small =
     ap (λ o. spot_by o xs (length xs)) none
     ∙ ap (λ (r : Option ℕ). let s : Spot = record { ranks = evened 1 xs; rank = r } in s)
-    (ap (λ (b : Bool). cond b (rank_for (evened 1 xs) (length xs)) None) (is_small (length xs) small) ∙ even_for xs (length xs) (itself_le (length xs)) ∙ even_rank (length xs) small)
+    (ap (λ (b : Bool). cond b (rank_for (evened 1 xs) (length xs)) None) (is_small (length xs) small)
+    ∙ even_for xs (length xs) (itself_le (length xs)) ∙ even_rank (length xs) small)
   where
     is_small : (n : ℕ) → n < most_entries → nat_lt n most_entries ≡ true
     is_small n h = grind (arith, nat_tests)
@@ -70,7 +75,8 @@ no_end xs none many =
     not_small n h = grind (arith, nat_tests)
 
 -- ---- what is put after the last
-pub after_kept : (xs : List Entry) (e : IdBytes) (r : ℕ) → rank_for (ranks_of xs) (length xs) ≡ Some r → xs ++ record { rank = r; id = e } ∷ [] ≡ root_after xs e
+pub after_kept : (xs : List Entry) (e : IdBytes) (r : ℕ) → rank_for (ranks_of xs) (length xs) ≡ Some r
+    → xs ++ record { rank = r; id = e } ∷ [] ≡ root_after xs e
 after_kept xs e r is =
     sym (ap (λ (s : Spot). with_ranks xs s.ranks ++ record { rank = unwrap_or s.rank 0; id = e } ∷ []) (kept_end xs r is)
     ∙ ap (λ (ys : List Entry). ys ++ record { rank = r; id = e } ∷ []) (same_entries xs))

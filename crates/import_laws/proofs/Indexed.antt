@@ -1,5 +1,6 @@
 -- Lists by index: what is left of a list, and the names at indices.
-use Rattle.std.proofs.Common.{◌≡◌, ℕ, zero, suc, ◌+◌, ◌<◌, ◌≤◌, Bool, true, false, ◌||◌, not, List, [], ◌∷◌, ◌++◌, length, drop, take, refl, sym, ap, subst, ◌∙◌, arith, nat_eq}
+use Rattle.std.proofs.Common.{◌≡◌, ℕ, zero, suc, ◌+◌, ◌<◌, ◌≤◌, Bool, true, false, ◌||◌, not, List, [], ◌∷◌, ◌++◌, length, drop, take, refl, sym, ap}
+use Rattle.std.proofs.Common.{subst, ◌∙◌, arith, nat_eq}
 use Rattle.std.specs.Prelude.{Some, slice_get}
 use Rattle.std.specs.List.{list_any, count_by}
 use Rattle.std.proofs.lemmas.List.Sums.{sum_by-append}
@@ -66,13 +67,16 @@ module _ {X : Type 0} where
   at_less (x ∷ xs) (suc n) r h = let less = at_less xs n r h in omega (arith, less)
 
   -- how many of the first n + 1 pass
-  pub count_next : (p : X → Bool) (n : ℕ) (xs : List X) (r : X) (rest : List X) → drop n xs ≡ r ∷ rest → count_by p (take (suc n) xs) ≡ count_by p (take n xs) + count_by p (r ∷ [])
+  pub count_next : (p : X → Bool) (n : ℕ) (xs : List X) (r : X) (rest : List X) → drop n xs ≡ r ∷ rest
+      → count_by p (take (suc n) xs) ≡ count_by p (take n xs) + count_by p (r ∷ [])
   count_next p n xs r rest h = ap (count_by p) (take_next n xs r rest h) ∙ sum_by-append _ (take n xs) (r ∷ [])
 
   -- no more than of all
-  pub count_within : (p : X → Bool) (n : ℕ) (xs : List X) (r : X) (rest : List X) → drop n xs ≡ r ∷ rest → count_by p (take n xs) + count_by p (r ∷ []) ≤ count_by p xs
+  pub count_within : (p : X → Bool) (n : ℕ) (xs : List X) (r : X) (rest : List X) → drop n xs ≡ r ∷ rest
+      → count_by p (take n xs) + count_by p (r ∷ []) ≤ count_by p xs
   count_within p n xs r rest h =
-      let whole : count_by p xs ≡ count_by p (take n xs) + count_by p (r ∷ rest) = ap (count_by p) (drop_parts n xs r rest h) ∙ sum_by-append _ (take n xs) (r ∷ rest) in
+      let whole : count_by p xs ≡ count_by p (take n xs) + count_by p (r ∷ rest) =
+      ap (count_by p) (drop_parts n xs r rest h) ∙ sum_by-append _ (take n xs) (r ∷ rest) in
       let parts : count_by p (r ∷ rest) ≡ count_by p (r ∷ []) + count_by p rest = sum_by-append _ (r ∷ []) rest in
       fewer _ _ _ _ _ whole parts
     where
@@ -90,21 +94,28 @@ none_at p [] i none h = absurd (omega arith)
 none_at p (x ∷ xs) zero none h = or_first (p x) _ none
 none_at p (x ∷ xs) (suc i) none h = none_at p xs i (or_second (p x) _ none) (omega arith)
 
-pub one_at : (names : List IdBytes) → ids_differ names ≡ true → (i j : ℕ) → i < length names → j < length names → text_eq (name_at names i) (name_at names j) ≡ true → i ≡ j
+pub one_at : (names : List IdBytes) → ids_differ names ≡ true → (i j : ℕ) → i < length names → j < length names
+    → text_eq (name_at names i) (name_at names j) ≡ true → i ≡ j
 one_at [] ok i j h g e = absurd (omega arith)
 one_at (x ∷ xs) ok zero zero h g e = refl
-one_at (x ∷ xs) ok zero (suc j) h g e = absurd (true_false (text_eq x (name_at xs j)) e (none_at (text_eq x) xs j (not_true (list_any (text_eq x) xs) (and_first _ _ ok)) (omega arith)))
+one_at (x ∷ xs) ok zero (suc j) h g e =
+    absurd (true_false (text_eq x (name_at xs j)) e (none_at (text_eq x) xs j (not_true (list_any (text_eq x) xs) (and_first _ _ ok)) (omega arith)))
 one_at (x ∷ xs) ok (suc i) zero h g e =
-    absurd (true_false (text_eq (name_at xs i) x) e (apart text_eq text_equality x (name_at xs i) (none_at (text_eq x) xs i (not_true (list_any (text_eq x) xs) (and_first _ _ ok)) (omega arith))))
+    absurd (true_false (text_eq (name_at xs i) x) e
+    (apart text_eq text_equality x (name_at xs i) (none_at (text_eq x) xs i (not_true (list_any (text_eq x) xs) (and_first _ _ ok)) (omega arith))))
 one_at (x ∷ xs) ok (suc i) (suc j) h g e = ap suc (one_at xs (and_second (not (list_any (text_eq x) xs)) _ ok) i j (omega arith) (omega arith) e)
 
 -- the names at two indices are the same where the indices are
-pub same_at : (names : List IdBytes) → ids_differ names ≡ true → (i j : ℕ) → i < length names → j < length names → text_eq (name_at names i) (name_at names j) ≡ nat_eq i j
+pub same_at : (names : List IdBytes) → ids_differ names ≡ true → (i j : ℕ) → i < length names → j < length names
+    → text_eq (name_at names i) (name_at names j) ≡ nat_eq i j
 same_at names ok i j h g =
     elim (text_eq (name_at names i) (name_at names j)) as (λ b. text_eq (name_at names i) (name_at names j) ≡ b → b ≡ nat_eq i j) [
       | true ↦ λ e. sym (ap (nat_eq i) (sym (one_at names ok i j h g e)) ∙ nat_equality.own i)
-      | false ↦ λ e. sym (not_so (nat_eq i j) (λ same. true_false (text_eq (name_at names i) (name_at names j)) (subst (λ k. text_eq (name_at names i) (name_at names k) ≡ true) (nat_equality.exact i j same) (text_equality.own (name_at names i))) e))
+      | false ↦ λ e. sym (not_so (nat_eq i j)
+          (λ same. true_false (text_eq (name_at names i) (name_at names j))
+          (subst (λ k. text_eq (name_at names i) (name_at names k) ≡ true) (nat_equality.exact i j same) (text_equality.own (name_at names i))) e))
     ] refl
 
-pub differ_at : (names : List IdBytes) → ids_differ names ≡ true → (i j : ℕ) → i < length names → j < length names → (i ≡ j → ⊥) → text_eq (name_at names i) (name_at names j) ≡ false
+pub differ_at : (names : List IdBytes) → ids_differ names ≡ true → (i j : ℕ) → i < length names → j < length names → (i ≡ j → ⊥)
+    → text_eq (name_at names i) (name_at names j) ≡ false
 differ_at names ok i j h g other = not_so (text_eq (name_at names i) (name_at names j)) (λ e. other (one_at names ok i j h g e))

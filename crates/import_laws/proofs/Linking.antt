@@ -47,7 +47,8 @@ set_grows row k r q there =
 pub set_stays : (row : Rows) (k : RowKey) (v : Option ℕ) (q : RowKey) → (q ≡ k → ⊥) → get (set row k v) q ≡ get row q
 set_stays row k v q other = get-set_other row_order row k v q (not_so (eq_by_cmp row_cmp q k) (λ same. other (same_key row_order q k same)))
 
-pair_grows : (row : Rows) (a : IdBytes) (f : ℕ) (b : IdBytes) (o : Option ℕ) (v w : ℕ) (q : RowKey) → is_some (get row q) ≡ true → is_some (get (set_pair row a f b o (Some v) (Some w)) q) ≡ true
+pair_grows : (row : Rows) (a : IdBytes) (f : ℕ) (b : IdBytes) (o : Option ℕ) (v w : ℕ) (q : RowKey) → is_some (get row q) ≡ true
+    → is_some (get (set_pair row a f b o (Some v) (Some w)) q) ≡ true
 pair_grows row a f b None v w q there = set_grows row (a, f, b) v q there
 pair_grows row a f b (Some g) v w q there = set_grows (set row (a, f, b) (Some v)) (b, g, a) w q (set_grows row (a, f, b) v q there)
 
@@ -55,7 +56,8 @@ pair_here : (row : Rows) (a : IdBytes) (f : ℕ) (b : IdBytes) (o : Option ℕ) 
 pair_here row a f b None v w = ap is_some (get-set_same row_order row (a, f, b) (Some v))
 pair_here row a f b (Some g) v w = set_grows (set row (a, f, b) (Some v)) (b, g, a) w (a, f, b) (ap is_some (get-set_same row_order row (a, f, b) (Some v)))
 
-pair_stays : (row : Rows) (a : IdBytes) (f : ℕ) (b : IdBytes) (o : Option ℕ) (v w : Option ℕ) (q : RowKey) → (q ≡ (a, f, b) → ⊥) → ((g : ℕ) → o ≡ Some g → q ≡ (b, g, a) → ⊥) → get (set_pair row a f b o v w) q ≡ get row q
+pair_stays : (row : Rows) (a : IdBytes) (f : ℕ) (b : IdBytes) (o : Option ℕ) (v w : Option ℕ) (q : RowKey) → (q ≡ (a, f, b) → ⊥)
+    → ((g : ℕ) → o ≡ Some g → q ≡ (b, g, a) → ⊥) → get (set_pair row a f b o v w) q ≡ get row q
 pair_stays row a f b None v w q one other = set_stays row (a, f, b) v q one
 pair_stays row a f b (Some g) v w q one other = set_stays (set row (a, f, b) v) (b, g, a) w q (other g refl) ∙ set_stays row (a, f, b) v q one
 
@@ -79,7 +81,8 @@ module _ (names : List IdBytes) (differ : ids_differ names ≡ true) where
       let feature : t.feature ≡ u.feature = ap (λ (q : RowKey). q.1) same in
       let target : t.target ≡ u.target = same_row t.target u.target small.1 small'.1 (ap (λ (q : RowKey). q.2) same) in
       true_false (nat_eq t.row u.row && (nat_eq t.feature u.feature && nat_eq t.target u.target))
-      (and_both (nat_eq t.row u.row) _ (equal t.row u.row row) (and_both (nat_eq t.feature u.feature) _ (equal t.feature u.feature feature) (equal t.target u.target target))) other
+      (and_both (nat_eq t.row u.row) _ (equal t.row u.row row)
+      (and_both (nat_eq t.feature u.feature) _ (equal t.feature u.feature feature) (equal t.target u.target target))) other
     where
       equal : (a b : ℕ) → a ≡ b → nat_eq a b ≡ true
       equal a b is = subst (λ x. nat_eq a x ≡ true) is (nat_equality.own a)
@@ -89,16 +92,20 @@ module _ (names : List IdBytes) (differ : ids_differ names ≡ true) where
   turns_other [] row q all = refl
   turns_other (t ∷ ts) row q all = turns_other ts (turn_set names row t) q all.1 ∙ set_stays row (key_of names t) (Some (rank_of t.index)) q all.0
 
-  pub turns_held : (ts : List Turn) (row : Rows) → Each Small ts → Alone ts → Each (λ t. get (turns_set names row ts) (key_of names t) ≡ Some (rank_of t.index)) ts
+  pub turns_held : (ts : List Turn) (row : Rows) → Each Small ts → Alone ts
+      → Each (λ t. get (turns_set names row ts) (key_of names t) ≡ Some (rank_of t.index)) ts
   turns_held [] row small alone = tt
   turns_held (t ∷ ts) row small alone = (
-    turns_other ts (turn_set names row t) (key_of names t) (each_map (λ u. Small u × Other t u) (λ u. key_of names t ≡ key_of names u → ⊥) (λ u h. keys_other t u small.0 h.0 h.1) ts (each_both Small (Other t) ts small.1 alone.0))
+    turns_other ts (turn_set names row t) (key_of names t)
+        (each_map (λ u. Small u × Other t u) (λ u. key_of names t ≡ key_of names u → ⊥) (λ u h. keys_other t u small.0 h.0 h.1) ts
+        (each_both Small (Other t) ts small.1 alone.0))
         ∙ get-set_same row_order row (key_of names t) (Some (rank_of t.index)),
     turns_held ts (turn_set names row t) small.1 alone.1,
   )
 
   -- each entry is an old one or one of a turn
-  pub covered : (last : Rows) (ts : List Turn) (row : Rows) → ((q : RowKey) → is_some (get row q) ≡ true → is_some (get last q) ≡ true) → Each (λ t. is_some (get last (key_of names t)) ≡ true) ts
+  pub covered : (last : Rows) (ts : List Turn) (row : Rows) → ((q : RowKey) → is_some (get row q) ≡ true → is_some (get last q) ≡ true)
+      → Each (λ t. is_some (get last (key_of names t)) ≡ true) ts
       → (q : RowKey) → is_some (get (turns_set names row ts) q) ≡ true → is_some (get last q) ≡ true
   covered last [] row old all q there = old q there
   covered last (t ∷ ts) row old all q there =
@@ -121,7 +128,8 @@ module _ (meta : Meta) (sound : Sound meta) (s : State) (names : List IdBytes) (
     pub small : (t.row < length names) × (t.target < length names)
     pub typed : may_link meta (get s.kind (name_at names t.row)) t.feature (get s.kind (name_at names t.target)) ≡ true
     pub due : get whole (key_of names t) ≡ Some (rank_of t.index)
-    pub mirror : (g : ℕ) → opposite_of meta t.feature ≡ Some g → get whole (name_at names t.target, g, name_at names t.row) ≡ Some (mirror_of rows (Some g) t.row t.target)
+    pub mirror : (g : ℕ) → opposite_of meta t.feature ≡ Some g
+        → get whole (name_at names t.target, g, name_at names t.row) ≡ Some (mirror_of rows (Some g) t.row t.target)
 
   -- the links that are due have been made
   pub record Linked (row : Rows) (ts : List Turn) : Type 0 where
@@ -152,23 +160,29 @@ module _ (meta : Meta) (sound : Sound meta) (s : State) (names : List IdBytes) (
     ra = rank_of t.index
 
     abbrev step : Step
-    step = link_step (opposite_of meta t.feature) (name_at names t.row) t.feature (rank_of t.index) (name_at names t.target) (mirror_of rows (opposite_of meta t.feature) t.row t.target)
+    step = link_step (opposite_of meta t.feature) (name_at names t.row) t.feature (rank_of t.index) (name_at names t.target)
+        (mirror_of rows (opposite_of meta t.feature) t.row t.target)
 
     abbrev next : Rows
-    next = set_pair row (name_at names t.row) t.feature (name_at names t.target) (opposite_of meta t.feature) (Some (rank_of t.index)) (Some (mirror_of rows (opposite_of meta t.feature) t.row t.target))
+    next = set_pair row (name_at names t.row) t.feature (name_at names t.target) (opposite_of meta t.feature) (Some (rank_of t.index))
+        (Some (mirror_of rows (opposite_of meta t.feature) t.row t.target))
 
     step_is : (b : Bool) → is_made o t.row f t.target ≡ b → turn_step meta names rows t ≡ cond b [] (step ∷ [])
     step_is b is = ap (link_to meta rows t.row e f t.index t.target) (named names t.target due.small.1) ∙ ap (λ c. cond c [] (step ∷ [])) is
 
     pair_within : (o : Option ℕ) → opposite_of meta t.feature ≡ o → within (set_pair row e f x o (Some ra) (Some (mirror_of rows o t.row t.target))) whole
     pair_within None is = set_within row whole (e, f, x) ra inside due.due
-    pair_within (Some g) is = set_within (set row (e, f, x) (Some ra)) whole (x, g, e) (mirror_of rows (Some g) t.row t.target) (set_within row whole (e, f, x) ra inside due.due) (due.mirror g is)
+    pair_within (Some g) is =
+        set_within (set row (e, f, x) (Some ra)) whole (x, g, e) (mirror_of rows (Some g) t.row t.target)
+        (set_within row whole (e, f, x) ra inside due.due) (due.mirror g is)
 
     module _ (good : Good meta (linked row)) (none : get row (key_of names t) ≡ None) where
       mirror_free : (o : Option ℕ) → opposite_of meta t.feature ≡ o → mirror_room meta (linked row) o x ≡ true
       mirror_free None is = refl
       mirror_free (Some g) is =
-          space row whole inside x g e (mirror_of rows (Some g) t.row t.target) (no_some (get row (x, g, e)) (sym (good.rows.mirrored e f x g is) ∙ ap is_some none)) (due.mirror g is) (row_upper meta g) (bound t.target g due.small.1)
+          space row whole inside x g e (mirror_of rows (Some g) t.row t.target)
+          (no_some (get row (x, g, e)) (sym (good.rows.mirrored e f x g is) ∙ ap is_some none)) (due.mirror g is) (row_upper meta g)
+          (bound t.target g due.small.1)
 
       takes : Takes meta (linked row) step next
       takes = link_takes meta sound (linked row) good e f ra x (mirror_of rows o t.row t.target) due.typed none
@@ -193,7 +207,8 @@ module _ (meta : Meta) (sound : Sound meta) (s : State) (names : List IdBytes) (
   links_lead [] row good inside due alone absent = record { last = row; run = refl; good = good; inside = inside; grows = λ q there. there; made = tt }
   links_lead (t ∷ ts) row good inside due alone absent =
       let more = turn_steps meta names rows ts in
-      elim (is_made (opposite_of meta t.feature) t.row t.feature t.target) as (λ b. is_made (opposite_of meta t.feature) t.row t.feature t.target ≡ b → Linked row (t ∷ ts)) [
+      elim (is_made (opposite_of meta t.feature) t.row t.feature t.target) as (λ b. is_made (opposite_of meta t.feature) t.row t.feature t.target ≡ b
+      → Linked row (t ∷ ts)) [
         | true ↦ λ made.
             let rest = links_lead ts row good inside due.1 alone.1 absent.1 in
             record {
@@ -208,14 +223,23 @@ module _ (meta : Meta) (sound : Sound meta) (s : State) (names : List IdBytes) (
             let rb = mirror_of rows (opposite_of meta t.feature) t.row t.target in
             let now = next t due.0 row inside in
             let took = takes t due.0 row inside good (absent.0 unmade) in
-            let absent' = each_map (λ u. (Due u × Other t u) × Absent row u) (Absent now) (λ u h. still t due.0 row inside u h.0.0 h.0.1 unmade h.1) ts (each_both (λ u. Due u × Other t u) (Absent row) ts (each_both Due (Other t) ts due.1 alone.0) absent.1) in
-            let rest = links_lead ts now (good_after meta sound (linked row) good (step t due.0 row inside) now took) (pair_within t due.0 row inside (opposite_of meta t.feature) refl) due.1 alone.1 absent' in
+            let absent' = each_map (λ u. (Due u × Other t u) × Absent row u) (Absent now)
+            (λ u h. still t due.0 row inside u h.0.0 h.0.1 unmade h.1) ts
+            (each_both (λ u. Due u × Other t u) (Absent row) ts (each_both Due (Other t) ts due.1 alone.0) absent.1) in
+            let rest = links_lead ts now (good_after meta sound (linked row) good (step t due.0 row inside) now took)
+            (pair_within t due.0 row inside (opposite_of meta t.feature) refl) due.1 alone.1 absent' in
             record {
               last = rest.last;
-              run = ap (λ ss. fold meta (linked row) (ss ++ more)) (step_is t due.0 row inside false unmade) ∙ fold_more meta (linked row) (step t due.0 row inside) more took.can ∙ ap (λ n. fold meta n more) took.leaves ∙ rest.run;
+              run = ap (λ ss. fold meta (linked row) (ss ++ more)) (step_is t due.0 row inside false unmade)
+                  ∙ fold_more meta (linked row) (step t due.0 row inside) more took.can ∙ ap (λ n. fold meta n more) took.leaves ∙ rest.run;
               good = rest.good;
               inside = rest.inside;
-              grows = λ q there. rest.grows q (pair_grows row (name_at names t.row) t.feature (name_at names t.target) (opposite_of meta t.feature) (rank_of t.index) rb q there);
-              made = (λ _. rest.grows (key_of names t) (pair_here row (name_at names t.row) t.feature (name_at names t.target) (opposite_of meta t.feature) (rank_of t.index) rb), rest.made);
+              grows = λ q there. rest.grows q
+                  (pair_grows row (name_at names t.row) t.feature (name_at names t.target) (opposite_of meta t.feature) (rank_of t.index) rb q there);
+              made = (
+                λ _. rest.grows (key_of names t)
+                    (pair_here row (name_at names t.row) t.feature (name_at names t.target) (opposite_of meta t.feature) (rank_of t.index) rb),
+                rest.made,
+              );
             }
       ] refl

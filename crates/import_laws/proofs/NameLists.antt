@@ -10,7 +10,8 @@ use Rattle.edit_laws.specs.declared.fault.EditFault.{EditFault}
 use Rattle.edits.specs.FreshIds.{numbered}
 use Rattle.model_documents.specs.declared.doc.DocRow.{DocRow}
 use Rattle.import_laws.specs.Import.{Imports, import_of, of_steps, recorded_import, steps_made}
-use Rattle.import_laws.specs.Names.{AreNames, IsName, IsNext, any_in_use, first_untaken, is_taken, name_and_rest, names_from, names_of, next_number, greatest_number}
+use Rattle.import_laws.specs.Names.{AreNames, IsName, IsNext, any_in_use, first_untaken, is_taken, name_and_rest, names_from, names_of, next_number}
+use Rattle.import_laws.specs.Names.{greatest_number}
 use Rattle.edits.specs.Answers.{Answers}
 
 if_true : (b : Bool) (x y : ℕ) → b ≡ true → (if b then x else y) ≡ x
@@ -73,13 +74,15 @@ next_is m rows ws from k next = first_is m rows ws greatest_number from k next (
     low from k small = omega arith
 
 -- the ids that a document's elements get are these
-pub names_are : (m : State) (rows : List DocRow) (ws k : ℕ) (rest : List DocRow) (names : List IdBytes) → AreNames m rows ws k rest names → names ≡ names_from m rows ws k rest
+pub names_are : (m : State) (rows : List DocRow) (ws k : ℕ) (rest : List DocRow) (names : List IdBytes) → AreNames m rows ws k rest names
+    → names ≡ names_from m rows ws k rest
 names_are m rows ws k [] [] are = refl
 names_are m rows ws k [] (x ∷ xs) are = absurd are
 names_are m rows ws k (r ∷ rest) [] are = absurd are
 names_are m rows ws k (r ∷ rest) (x ∷ xs) are = by r.id are.1 (names_are m rows ws are.0 rest xs are.2)
   where
-    by : (id : Option IdBytes) → IsName m rows ws k id x are.0 → xs ≡ names_from m rows ws are.0 rest → x ∷ xs ≡ name_and_rest m rows ws k id (λ next. names_from m rows ws next rest)
+    by : (id : Option IdBytes) → IsName m rows ws k id x are.0 → xs ≡ names_from m rows ws are.0 rest
+        → x ∷ xs ≡ name_and_rest m rows ws k id (λ next. names_from m rows ws next rest)
     by (Some id) is others = (λ i. is.0 i ∷ xs) ∙ ap (λ l. id ∷ l) (others ∙ ap (λ n. names_from m rows ws n rest) is.1)
     by None is others =
         let number = next_is m rows ws k is.0 is.2 in
@@ -87,18 +90,22 @@ names_are m rows ws k (r ∷ rest) (x ∷ xs) are = by r.id are.1 (names_are m r
         ∙ ap (λ l. numbered ws is.0 ∷ l) (others ∙ ap (λ n. names_from m rows ws n rest) is.3)
         ∙ ap (λ n. numbered ws n ∷ names_from m rows ws (n + 1) rest) (sym number)
 
-with_names : (meta : Meta) (m : State) (ws : ℕ) (rows : List DocRow) (names : List IdBytes) → AreNames m rows ws 1 rows names → recorded_import meta m ws rows ≡ import_of meta m names rows
+with_names : (meta : Meta) (m : State) (ws : ℕ) (rows : List DocRow) (names : List IdBytes) → AreNames m rows ws 1 rows names
+    → recorded_import meta m ws rows ≡ import_of meta m names rows
 with_names meta m ws rows names are = ap (λ l. import_of meta m l rows) (sym (names_are m rows ws 1 rows names are))
 
 in_use : (meta : Meta) (m : State) (ws : ℕ) (rows : List DocRow) → any_in_use m rows ≡ true → recorded_import meta m ws rows ≡ Err EditFault.IdInUse
 in_use meta m ws rows is = by (any_in_use m rows) is
   where
-    by : (b : Bool) → b ≡ true → ◌≡◌ {A = Result (Option Operation) EditFault} (if b then Err EditFault.IdInUse else of_steps rows (steps_made meta m (names_of m ws rows) rows)) (Err EditFault.IdInUse)
+    by : (b : Bool) → b ≡ true
+        → ◌≡◌ {A = Result (Option Operation) EditFault}
+        (if b then Err EditFault.IdInUse else of_steps rows (steps_made meta m (names_of m ws rows) rows)) (Err EditFault.IdInUse)
     by true h = refl
     by false h = absurd cc
 
 -- what an import answers is what is recorded
-pub is_recorded : (meta : Meta) (m : State) (ws : ℕ) (rows : List DocRow) (r : Result (Option Operation) EditFault) → Imports meta m ws rows r → Answers r (recorded_import meta m ws rows)
+pub is_recorded : (meta : Meta) (m : State) (ws : ℕ) (rows : List DocRow) (r : Result (Option Operation) EditFault) → Imports meta m ws rows r
+    → Answers r (recorded_import meta m ws rows)
 is_recorded meta m ws rows (Ok operation) imports = with_names meta m ws rows imports.0 imports.1 ∙ imports.2
 is_recorded meta m ws rows (Err fault) imports = by imports
   where

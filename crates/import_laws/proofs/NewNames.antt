@@ -27,19 +27,24 @@ found e r rest is = ap (λ (b : Bool). b || list_any (gives_id e) rest) (ap (λ 
 
 module _ (m : State) (rows : List DocRow) (ws : ℕ) where
   free_is : (k : ℕ) → is_taken m rows (numbered ws k) ≡ false → (is_live m (numbered ws k) ≡ false) × (list_any (gives_id (numbered ws k)) rows ≡ false)
-  free_is k h = (or_first (is_live m (numbered ws k)) (list_any (gives_id (numbered ws k)) rows) h, or_second (is_live m (numbered ws k)) (list_any (gives_id (numbered ws k)) rows) h)
+  free_is k h = (
+    or_first (is_live m (numbered ws k)) (list_any (gives_id (numbered ws k)) rows) h,
+    or_second (is_live m (numbered ws k)) (list_any (gives_id (numbered ws k)) rows) h,
+  )
 
   -- ---- none is live
   not_live : (from : ℕ) (o : Option IdBytes) (x : IdBytes) (next : ℕ) → IsName m rows ws from o x next → in_use m o ≡ false → is_live m x ≡ false
   not_live from (Some id) x next is h = ap (is_live m) is.0 ∙ h
   not_live from None x next is h = ap (is_live m) is.1 ∙ (free_is is.0 is.2.free).0
 
-  none_live : (from : ℕ) (rest : List DocRow) (names : List IdBytes) → AreNames m rows ws from rest names → any_in_use m rest ≡ false → list_any (is_live m) names ≡ false
+  none_live : (from : ℕ) (rest : List DocRow) (names : List IdBytes) → AreNames m rows ws from rest names → any_in_use m rest ≡ false
+      → list_any (is_live m) names ≡ false
   none_live from [] [] are h = refl
   none_live from [] (x ∷ xs) are h = absurd are
   none_live from (r ∷ rest) [] are h = absurd are
   none_live from (r ∷ rest) (x ∷ xs) are h =
-      neither (is_live m x) (list_any (is_live m) xs) (not_live from r.id x are.0 are.1 (or_first (in_use m r.id) (any_in_use m rest) h)) (none_live are.0 rest xs are.2 (or_second (in_use m r.id) (any_in_use m rest) h))
+      neither (is_live m x) (list_any (is_live m) xs) (not_live from r.id x are.0 are.1 (or_first (in_use m r.id) (any_in_use m rest) h))
+      (none_live are.0 rest xs are.2 (or_second (in_use m r.id) (any_in_use m rest) h))
 
   -- ---- as many
   as_many : (from : ℕ) (rest : List DocRow) (names : List IdBytes) → AreNames m rows ws from rest names → length names ≡ length rest
@@ -49,23 +54,27 @@ module _ (m : State) (rows : List DocRow) (ws : ℕ) where
   as_many from (r ∷ rest) (x ∷ xs) are = ap (λ n. suc n) (as_many are.0 rest xs are.2)
 
   -- ---- an id of the document differs from the names after it
-  given_differs : (id : IdBytes) → list_any (gives_id id) rows ≡ true → (from : ℕ) (o : Option IdBytes) (y : IdBytes) (next : ℕ) → IsName m rows ws from o y next → option_eq text_eq (Some id) o ≡ false → text_eq id y ≡ false
+  given_differs : (id : IdBytes) → list_any (gives_id id) rows ≡ true → (from : ℕ) (o : Option IdBytes) (y : IdBytes) (next : ℕ)
+      → IsName m rows ws from o y next → option_eq text_eq (Some id) o ≡ false → text_eq id y ≡ false
   given_differs id here from (Some other) y next is h = ap (text_eq id) is.0 ∙ h
   given_differs id here from None y next is h =
       not_so (text_eq id y) (λ e.
       let one : id ≡ numbered ws is.0 = same id y e ∙ is.1 in
       true_false (list_any (gives_id id) rows) here (ap (λ z. list_any (gives_id z) rows) one ∙ (free_is is.0 is.2.free).1))
 
-  given_apart : (id : IdBytes) → list_any (gives_id id) rows ≡ true → (from : ℕ) (rest : List DocRow) (names : List IdBytes) → AreNames m rows ws from rest names → list_any (gives_id id) rest ≡ false → list_any (text_eq id) names ≡ false
+  given_apart : (id : IdBytes) → list_any (gives_id id) rows ≡ true → (from : ℕ) (rest : List DocRow) (names : List IdBytes)
+      → AreNames m rows ws from rest names → list_any (gives_id id) rest ≡ false → list_any (text_eq id) names ≡ false
   given_apart id here from [] [] are h = refl
   given_apart id here from [] (y ∷ ys) are h = absurd are
   given_apart id here from (r ∷ rest) [] are h = absurd are
   given_apart id here from (r ∷ rest) (y ∷ ys) are h =
-      neither (text_eq id y) (list_any (text_eq id) ys) (given_differs id here from r.id y are.0 are.1 (or_first (gives_id id r) (list_any (gives_id id) rest) h))
+      neither (text_eq id y) (list_any (text_eq id) ys)
+      (given_differs id here from r.id y are.0 are.1 (or_first (gives_id id r) (list_any (gives_id id) rest) h))
       (given_apart id here are.0 rest ys are.2 (or_second (gives_id id r) (list_any (gives_id id) rest) h))
 
   -- ---- a fresh id differs from the names after it
-  fresh_differs : (k : ℕ) → k < 2 ^ 64 → list_any (gives_id (numbered ws k)) rows ≡ false → (from : ℕ) → k < from → (o : Option IdBytes) (y : IdBytes) (next : ℕ) → IsName m rows ws from o y next
+  fresh_differs : (k : ℕ) → k < 2 ^ 64 → list_any (gives_id (numbered ws k)) rows ≡ false → (from : ℕ) → k < from
+      → (o : Option IdBytes) (y : IdBytes) (next : ℕ) → IsName m rows ws from o y next
       → ((id : IdBytes) → o ≡ Some id → list_any (gives_id id) rows ≡ true) → text_eq (numbered ws k) y ≡ false
   fresh_differs k small none from less (Some id) y next is within =
       not_so (text_eq (numbered ws k) y) (λ e.
@@ -90,7 +99,8 @@ module _ (m : State) (rows : List DocRow) (ws : ℕ) where
       further : (k from j next : ℕ) → k < from → from ≤ j → next ≡ j + 1 → k < next
       further k from j next p q r = omega arith
 
-  fresh_apart : (k : ℕ) → k < 2 ^ 64 → list_any (gives_id (numbered ws k)) rows ≡ false → (from : ℕ) → k < from → (rest : List DocRow) (names : List IdBytes) → AreNames m rows ws from rest names
+  fresh_apart : (k : ℕ) → k < 2 ^ 64 → list_any (gives_id (numbered ws k)) rows ≡ false → (from : ℕ) → k < from
+      → (rest : List DocRow) (names : List IdBytes) → AreNames m rows ws from rest names
       → ((id : IdBytes) → list_any (gives_id id) rest ≡ true → list_any (gives_id id) rows ≡ true) → list_any (text_eq (numbered ws k)) names ≡ false
   fresh_apart k small none from less [] [] are within = refl
   fresh_apart k small none from less [] (y ∷ ys) are within = absurd are
@@ -98,15 +108,19 @@ module _ (m : State) (rows : List DocRow) (ws : ℕ) where
   fresh_apart k small none from less (r ∷ rest) (y ∷ ys) are within =
       neither (text_eq (numbered ws k) y) (list_any (text_eq (numbered ws k)) ys)
       (fresh_differs k small none from less r.id y are.0 are.1 (λ id is. within id (found id r rest is)))
-      (fresh_apart k small none are.0 (goes_on k from less r.id y are.0 are.1) rest ys are.2 (λ id h. within id (or_true (gives_id id r) (list_any (gives_id id) rest) h)))
+      (fresh_apart k small none are.0 (goes_on k from less r.id y are.0 are.1) rest ys are.2
+      (λ id h. within id (or_true (gives_id id r) (list_any (gives_id id) rest) h)))
     where
       or_true : (a b : Bool) → b ≡ true → a || b ≡ true
       or_true true b h = refl
       or_true false b h = h
 
   -- ---- no two are the same
-  first_apart : (from : ℕ) (o : Option IdBytes) (x : IdBytes) (next : ℕ) → IsName m rows ws from o x next → (rest : List DocRow) (names : List IdBytes) → AreNames m rows ws next rest names
-      → ((id : IdBytes) → o ≡ Some id → list_any (gives_id id) rows ≡ true) → ((id : IdBytes) → list_any (gives_id id) rest ≡ true → list_any (gives_id id) rows ≡ true) → is_given o rest ≡ false → list_any (text_eq x) names ≡ false
+  first_apart : (from : ℕ) (o : Option IdBytes) (x : IdBytes) (next : ℕ) → IsName m rows ws from o x next
+      → (rest : List DocRow) (names : List IdBytes) → AreNames m rows ws next rest names
+      → ((id : IdBytes) → o ≡ Some id → list_any (gives_id id) rows ≡ true)
+      → ((id : IdBytes) → list_any (gives_id id) rest ≡ true → list_any (gives_id id) rows ≡ true) → is_given o rest ≡ false
+      → list_any (text_eq x) names ≡ false
   first_apart from (Some id) x next is rest names are here within h =
       ap (λ z. list_any (text_eq z) names) is.0 ∙ given_apart id (here id refl) next rest names are h
   first_apart from None x next is rest names are here within h =
@@ -119,14 +133,17 @@ module _ (m : State) (rows : List DocRow) (ws : ℕ) where
       after : (j next : ℕ) → next ≡ j + 1 → j < next
       after j next h = omega arith
 
-  all_apart : (from : ℕ) (rest : List DocRow) (names : List IdBytes) → AreNames m rows ws from rest names → ((id : IdBytes) → list_any (gives_id id) rest ≡ true → list_any (gives_id id) rows ≡ true) → ids_repeat rest ≡ false → ids_differ names ≡ true
+  all_apart : (from : ℕ) (rest : List DocRow) (names : List IdBytes) → AreNames m rows ws from rest names
+      → ((id : IdBytes) → list_any (gives_id id) rest ≡ true → list_any (gives_id id) rows ≡ true) → ids_repeat rest ≡ false → ids_differ names ≡ true
   all_apart from [] [] are within h = refl
   all_apart from [] (x ∷ xs) are within h = absurd are
   all_apart from (r ∷ rest) [] are within h = absurd are
   all_apart from (r ∷ rest) (x ∷ xs) are within h =
-      let more : (id : IdBytes) → list_any (gives_id id) rest ≡ true → list_any (gives_id id) rows ≡ true = λ id g. within id (behind (gives_id id r) (list_any (gives_id id) rest) g) in
+      let more : (id : IdBytes) → list_any (gives_id id) rest ≡ true
+      → list_any (gives_id id) rows ≡ true = λ id g. within id (behind (gives_id id r) (list_any (gives_id id) rest) g) in
       and_both (not (list_any (text_eq x) xs)) (ids_differ xs)
-      (ap not (first_apart from r.id x are.0 are.1 rest xs are.2 (λ id is. within id (found id r rest is)) more (or_first (is_given r.id rest) (ids_repeat rest) h)))
+      (ap not (first_apart from r.id x are.0 are.1 rest xs are.2 (λ id is. within id (found id r rest is)) more
+      (or_first (is_given r.id rest) (ids_repeat rest) h)))
       (all_apart are.0 rest xs are.2 more (or_second (is_given r.id rest) (ids_repeat rest) h))
     where
       behind : (a b : Bool) → b ≡ true → a || b ≡ true

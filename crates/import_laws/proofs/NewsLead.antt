@@ -1,6 +1,7 @@
 -- The elements of a document are created.
 use Rattle.std.proofs.lemmas.Bool.Decides.{nat_tests}
-use Rattle.std.proofs.Common.{◌≡◌, ℕ, suc, ◌+◌, ◌<◌, ◌≤◌, Bool, true, false, cond, ◌&&◌, List, [], ◌∷◌, ◌++◌, length, drop, take, refl, sym, ap, subst, ◌∙◌, arith, nat_eq, nat_lt}
+use Rattle.std.proofs.Common.{◌≡◌, ℕ, suc, ◌+◌, ◌<◌, ◌≤◌, Bool, true, false, cond, ◌&&◌, List, [], ◌∷◌, ◌++◌, length, drop, take, refl, sym, ap}
+use Rattle.std.proofs.Common.{subst, ◌∙◌, arith, nat_eq, nat_lt}
 use Rattle.std.specs.Prelude.{Option, None, Some, is_some, Result, Ok, Err, if◌then◌else◌, slice_get}
 use Rattle.std.specs.List.{count_by, list_any}
 use Rattle.std.specs.FinMap.{get}
@@ -39,7 +40,8 @@ use Rattle.import_laws.specs.Laws.{ids_differ}
 use Rattle.import_laws.specs.Names.{name_at}
 use Rattle.import_laws.specs.News as news
 use Rattle.import_laws.specs.News.{element_made, inside, news_from, place_of, roots_after}
-use Rattle.import_laws.proofs.Indexed.{at_less, count_next, count_within, differ_at, drop_all, drop_at, drop_less, drop_next, drop_none, named, none_at, same_at, take_none}
+use Rattle.import_laws.proofs.Indexed.{at_less, count_next, count_within, differ_at, drop_all, drop_at, drop_less, drop_next, drop_none, named}
+use Rattle.import_laws.proofs.Indexed.{none_at, same_at, take_none}
 use Rattle.import_laws.proofs.Standing.{Arrives, arrives, with_new}
 use Rattle.import_laws.proofs.ValuesLead.{room}
 
@@ -59,7 +61,8 @@ swapped a b =
     apart_numbers : (a b : ℕ) → nat_eq b a ≡ false → nat_eq a b ≡ false
     apart_numbers a b e = grind (arith, nat_tests)
 
-module _ (meta : Meta) (sound : Sound meta) (m : State) (names : List IdBytes) (rows : List DocRow) (fit : DocumentFits meta rows) (as_many : length names ≡ length rows) (differ : ids_differ names ≡ true) where
+module _ (meta : Meta) (sound : Sound meta) (m : State) (names : List IdBytes) (rows : List DocRow) (fit : DocumentFits meta rows)
+    (as_many : length names ≡ length rows) (differ : ids_differ names ≡ true) where
   abbrev at : ℕ → IdBytes
   at i = name_at names i
 
@@ -91,16 +94,19 @@ module _ (meta : Meta) (sound : Sound meta) (m : State) (names : List IdBytes) (
     abbrev MayCome : State → ℕ → Place → Type 0
     MayCome s c p = (place_live s p ≡ true) × (may_stand meta s c p ≡ true) × (has_room meta s p ≡ true)
 
-    inside_may : (s : State) (xs : List Entry) → Come n s xs → (c : ℕ) (p : DocParent) → r.parent ≡ Some p → parent_before n (Some p) ≡ true → StandsFit meta rows c (Some p) → MayCome s c (Inside (at p.row) p.feature)
+    inside_may : (s : State) (xs : List Entry) → Come n s xs → (c : ℕ) (p : DocParent) → r.parent ≡ Some p → parent_before n (Some p) ≡ true
+        → StandsFit meta rows c (Some p) → MayCome s c (Inside (at p.row) p.feature)
     inside_may s xs come c p is before fits =
         let less = less_is p.row n before in
         let kind : get s.kind (at p.row) ≡ Some fits.0.class = come.behind p.row fits.0 less fits.1 in
-        let mine : count_by (λ (q : DocRow). option_eq parent_eq q.parent (Some p)) (r ∷ []) ≡ 1 = counted (option_eq parent_eq r.parent (Some p)) (ap (λ o. option_eq parent_eq o (Some p)) is ∙ own p) in
+        let mine : count_by (λ (q : DocRow). option_eq parent_eq q.parent (Some p)) (r ∷ []) ≡ 1 =
+        counted (option_eq parent_eq r.parent (Some p)) (ap (λ o. option_eq parent_eq o (Some p)) is ∙ own p) in
         let more = count_within (λ (q : DocRow). option_eq parent_eq q.parent (Some p)) n rows r rest left in
         let space : standing (Some p) (take n rows) + 1 ≤ standing (Some p) rows = omega (arith, mine, more) in (
           ap is_some kind,
           and_both _ (contains_to meta (kind_of meta p.feature) c) (ap (λ o. class_has meta o p.feature) kind ∙ fits.2) fits.3,
-          ap (λ k. is_below k (child_upper meta p.feature)) (come.stood p.row p.feature (parent_within p before)) ∙ room (standing (Some p) (take n rows)) (standing (Some p) rows) (child_upper meta p.feature) space (fit.bound p),
+          ap (λ k. is_below k (child_upper meta p.feature)) (come.stood p.row p.feature (parent_within p before))
+              ∙ room (standing (Some p) (take n rows)) (standing (Some p) rows) (child_upper meta p.feature) space (fit.bound p),
         )
       where
         own : (p : DocParent) → parent_eq p p ≡ true
@@ -109,13 +115,15 @@ module _ (meta : Meta) (sound : Sound meta) (m : State) (names : List IdBytes) (
         counted : (b : Bool) → b ≡ true → 0 + cond b 1 0 ≡ 1
         counted b h = ap (λ t. 0 + cond t 1 0) h
 
-    may_come : (s : State) (xs : List Entry) → Come n s xs → (c : ℕ) (o : Option DocParent) → r.parent ≡ o → parent_before n o ≡ true → StandsFit meta rows c o → MayCome s c (place_of names o)
+    may_come : (s : State) (xs : List Entry) → Come n s xs → (c : ℕ) (o : Option DocParent) → r.parent ≡ o → parent_before n o ≡ true
+        → StandsFit meta rows c o → MayCome s c (place_of names o)
     may_come s xs come c None is before fits = (refl, refl, refl)
     may_come s xs come c (Some p) is before fits =
         subst (λ x. MayCome s c (inside x p.feature)) (sym (named names p.row (parent_within p before))) (inside_may s xs come c p is before fits)
 
     -- ---- how many stand in a place then
-    place_same : (o : Option DocParent) → parent_before n o ≡ true → (p f : ℕ) → p < length names → place_eq (Inside (at p) f) (place_of names o) ≡ option_eq parent_eq o (Some (record { row = p; feature = f }))
+    place_same : (o : Option DocParent) → parent_before n o ≡ true → (p f : ℕ) → p < length names
+        → place_eq (Inside (at p) f) (place_of names o) ≡ option_eq parent_eq o (Some (record { row = p; feature = f }))
     place_same None before p f small = refl
     place_same (Some q) before p f small =
         ap (λ x. place_eq (Inside (at p) f) (inside x q.feature)) (named names q.row (parent_within q before))
@@ -123,17 +131,22 @@ module _ (meta : Meta) (sound : Sound meta) (m : State) (names : List IdBytes) (
         ∙ ap (λ b. nat_eq q.row p && b) (swapped f q.feature)
 
     stood_next : (s : State) (xs : List Entry) → Come n s xs → parent_before n r.parent ≡ true → (prank : Ranks) (p f : ℕ) → p < length names
-        → child_count (with_new s (at n) r.class (place_of names r.parent) prank) (Inside (at p) f) ≡ standing (Some (record { row = p; feature = f })) (take (suc n) rows)
+        → child_count (with_new s (at n) r.class (place_of names r.parent) prank) (Inside (at p) f) ≡ standing
+        (Some (record { row = p; feature = f })) (take (suc n) rows)
     stood_next s xs come before prank p f small =
         let e = at n in
         let to = place_of names r.parent in
         let test = λ (x : IdBytes × Place). place_eq (Inside (at p) f) x.1 in
         let parent : DocParent = record { row = p; feature = f } in
-        let sum : count test (set s.place e (Some to)) + counts test e (get s.place e) ≡ count test s.place + counts test e (Some to) = count-set id_order test s.place e (Some to) in
+        let sum : count test (set s.place e (Some to)) + counts test e (get s.place e) ≡ count test s.place + counts test e (Some to) =
+        count-set id_order test s.place e (Some to) in
         let none : counts test e (get s.place e) ≡ 0 = ap (counts test e) (dead_place meta s come.good e (no_some _ (come.ahead n (itself n) within))).0 in
-        let one : counts test e (Some to) ≡ cond (option_eq parent_eq r.parent (Some parent)) 1 0 = ap (λ b. cond b 1 0) (place_same r.parent before p f small) in
+        let one : counts test e (Some to) ≡ cond (option_eq parent_eq r.parent (Some parent)) 1 0 =
+        ap (λ b. cond b 1 0) (place_same r.parent before p f small) in
         let old : count test s.place ≡ standing (Some parent) (take n rows) = come.stood p f small in
-        let next : standing (Some parent) (take (suc n) rows) ≡ standing (Some parent) (take n rows) + (0 + cond (option_eq parent_eq r.parent (Some parent)) 1 0) = count_next (λ (q : DocRow). option_eq parent_eq q.parent (Some parent)) n rows r rest left in
+        let next : standing (Some parent) (take (suc n) rows) ≡ standing (Some parent)
+        (take n rows) + (0 + cond (option_eq parent_eq r.parent (Some parent)) 1 0) =
+        count_next (λ (q : DocRow). option_eq parent_eq q.parent (Some parent)) n rows r rest left in
         added _ _ _ _ _ _ _ sum none one old next
       where
         itself : (n : ℕ) → n ≤ n
@@ -144,8 +157,11 @@ module _ (meta : Meta) (sound : Sound meta) (m : State) (names : List IdBytes) (
 
     -- ---- its element is created
     come_next : (s : State) (xs : List Entry) → Come n s xs → parent_before n r.parent ≡ true → (k : ℕ) → news.has_room xs (place_of names r.parent) ≡ true
-        → Arrives meta s (element_made xs (place_of names r.parent) (at n) r.class k) (with_new s (at n) r.class (place_of names r.parent) (ranks_after xs (place_of names r.parent) (at n) k s.prank)) (roots_after xs (place_of names r.parent) (at n))
-        × Come (suc n) (with_new s (at n) r.class (place_of names r.parent) (ranks_after xs (place_of names r.parent) (at n) k s.prank)) (roots_after xs (place_of names r.parent) (at n))
+        → Arrives meta s (element_made xs (place_of names r.parent) (at n) r.class k)
+        (with_new s (at n) r.class (place_of names r.parent) (ranks_after xs (place_of names r.parent) (at n) k s.prank))
+        (roots_after xs (place_of names r.parent) (at n))
+        × Come (suc n) (with_new s (at n) r.class (place_of names r.parent) (ranks_after xs (place_of names r.parent) (at n) k s.prank))
+        (roots_after xs (place_of names r.parent) (at n))
     come_next s xs come before k end =
         let row = fit.each n r here in
         let e = at n in
@@ -160,12 +176,16 @@ module _ (meta : Meta) (sound : Sound meta) (m : State) (names : List IdBytes) (
             behind = λ i q less is. elim (nat_eq i n) as (λ b. nat_eq i n ≡ b → get (set s.kind e (Some r.class)) (at i) ≡ Some q.class) [
               | true ↦ λ same.
                   let now : i ≡ n = nat_equality.exact i n same in
-                  ap (λ j. get (set s.kind e (Some r.class)) (at j)) now ∙ get-set_same id_order s.kind e (Some r.class) ∙ same_class q (sym is ∙ ap (slice_get rows) now ∙ here)
+                  ap (λ j. get (set s.kind e (Some r.class)) (at j)) now ∙ get-set_same id_order s.kind e (Some r.class)
+                  ∙ same_class q (sym is ∙ ap (slice_get rows) now ∙ here)
               | false ↦ λ other.
                   let less' : i < n = earlier i n other less in
-                  get-set_other id_order s.kind e (Some r.class) (at i) (other_name i (λ same. not_self i n less' same) (small i n less' within)) ∙ come.behind i q less' is
+                  get-set_other id_order s.kind e (Some r.class) (at i) (other_name i (λ same. not_self i n less' same) (small i n less' within))
+                  ∙ come.behind i q less' is
             ] refl;
-            ahead = λ i later small. ap is_some (get-set_other id_order s.kind e (Some r.class) (at i) (other_name i (λ same. not_next i n later same) small)) ∙ come.ahead i (from_next i n later) small;
+            ahead = λ i later small.
+                ap is_some (get-set_other id_order s.kind e (Some r.class) (at i) (other_name i (λ same. not_next i n later same) small))
+                ∙ come.ahead i (from_next i n later) small;
             stood = stood_next s xs come before (ranks_after xs to e k s.prank);
           },
         )
@@ -194,7 +214,8 @@ module _ (meta : Meta) (sound : Sound meta) (m : State) (names : List IdBytes) (
         from_next : (i n : ℕ) → suc n ≤ i → n ≤ i
         from_next i n later = omega arith
 
-  news_lead : (rest : List DocRow) (n : ℕ) (kind : Kinds) (place : Places) (prank : Ranks) (xs : List Entry) (steps ss : List Step) → drop n rows ≡ rest → parents_before n rest ≡ true → Come n (placed m kind place prank) xs
+  news_lead : (rest : List DocRow) (n : ℕ) (kind : Kinds) (place : Places) (prank : Ranks) (xs : List Entry) (steps ss : List Step)
+      → drop n rows ≡ rest → parents_before n rest ≡ true → Come n (placed m kind place prank) xs
       → fold meta m steps ≡ Some (placed m kind place prank) → news_from names rows steps n xs rest ≡ Ok ss
       → Led ss (placed m (kinds_from names n kind rest) (places_from names n place rest) (ranks_from names rows n xs prank rest))
   news_lead [] n kind place prank xs steps ss left before come run made = record {
@@ -214,11 +235,14 @@ module _ (meta : Meta) (sound : Sound meta) (m : State) (names : List IdBytes) (
       let to = place_of names r.parent in
       let k = standing r.parent (take n rows) in
       let ss' = steps ++ element_made xs to e r.class k in
-      elim (news.has_room xs to) as (λ b. news.has_room xs to ≡ b → (if b then news_from names rows ss' (suc n) (roots_after xs to e) rest else Err Bound) ≡ Ok ss
-      → Led ss (placed m (kinds_from names (suc n) (set kind e (Some r.class)) rest) (places_from names (suc n) (set place e (Some to)) rest) (ranks_from names rows (suc n) (roots_after xs to e) (ranks_after xs to e k prank) rest))) [
+      elim (news.has_room xs to) as (λ b. news.has_room xs to ≡ b
+      → (if b then news_from names rows ss' (suc n) (roots_after xs to e) rest else Err Bound) ≡ Ok ss
+      → Led ss (placed m (kinds_from names (suc n) (set kind e (Some r.class)) rest) (places_from names (suc n) (set place e (Some to)) rest)
+      (ranks_from names rows (suc n) (roots_after xs to e) (ranks_after xs to e k prank) rest))) [
         | true ↦ λ end made.
             let next = come_next n r rest left s xs come (and_first _ _ before) k end in
-            news_lead rest (suc n) (set kind e (Some r.class)) (set place e (Some to)) (ranks_after xs to e k prank) (roots_after xs to e) ss' ss (drop_next n rows r rest left) (and_second (parent_before n r.parent) _ before) next.1
+            news_lead rest (suc n) (set kind e (Some r.class)) (set place e (Some to)) (ranks_after xs to e k prank) (roots_after xs to e) ss' ss
+            (drop_next n rows r rest left) (and_second (parent_before n r.parent) _ before) next.1
             (fold_append meta m s steps (element_made xs to e r.class k) run ∙ next.0.run) made
         | false ↦ λ end made. cc
       ] refl made
@@ -247,5 +271,6 @@ module _ (meta : Meta) (sound : Sound meta) (m : State) (names : List IdBytes) (
         none i less = omega arith
 
     pub news_led : (ss : List Step) → news.news_made (children m.place m.prank Root) names rows ≡ Ok ss
-        → Led ss (placed m (kinds_from names 0 m.kind rows) (places_from names 0 m.place rows) (ranks_from names rows 0 (children m.place m.prank Root) m.prank rows))
+        → Led ss (placed m (kinds_from names 0 m.kind rows) (places_from names 0 m.place rows)
+        (ranks_from names rows 0 (children m.place m.prank Root) m.prank rows))
     news_led ss made = news_lead rows 0 m.kind m.place m.prank (children m.place m.prank Root) [] ss (drop_none rows) fit.parents come_none refl made

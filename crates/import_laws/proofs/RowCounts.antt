@@ -61,7 +61,9 @@ module _ (row whole : Rows) (inside : within row whole) where
   pub no_more : (a : IdBytes) (f : ℕ) → count (of a f) row ≤ count (of a f) whole
   no_more a f =
       let same : count (of a f) row ≡ count (of a f) part = count_alike row_order (of a f) row part (part_alike a f) in
-      let listed : count (of a f) part ≡ tally (of a f) (where_key row_cmp held (entries whole)) = ap (tally (of a f)) (entries-from_sorted row_cmp (where_key row_cmp held (entries whole)) (is_sorted-where_key row_cmp held (entries whole) (entries_sorted whole))) in
+      let listed : count (of a f) part ≡ tally (of a f) (where_key row_cmp held (entries whole)) =
+      ap (tally (of a f)) (entries-from_sorted row_cmp (where_key row_cmp held (entries whole))
+      (is_sorted-where_key row_cmp held (entries whole) (entries_sorted whole))) in
       let less = tally-filter (of a f) (λ (e : RowKey × ℕ). held e.0) (entries whole) in
       fewer _ _ _ _ same listed less
     where
@@ -69,7 +71,8 @@ module _ (row whole : Rows) (inside : within row whole) where
       fewer a b c d p q h = omega arith
 
 -- where a row of the whole is not there, there is room for it
-pub space : (row whole : Rows) → within row whole → (a : IdBytes) (f : ℕ) (b : IdBytes) (r : ℕ) → get row (a, f, b) ≡ None → get whole (a, f, b) ≡ Some r → (upper : Option ℕ)
+pub space : (row whole : Rows) → within row whole → (a : IdBytes) (f : ℕ) (b : IdBytes) (r : ℕ) → get row (a, f, b) ≡ None
+    → get whole (a, f, b) ≡ Some r → (upper : Option ℕ)
     → is_within (count (λ (e : RowKey × ℕ). is_of a f e.0) whole) upper ≡ true → is_below (count (λ (e : RowKey × ℕ). is_of a f e.0) row) upper ≡ true
 space row whole inside a f b r none some None bound = refl
 space row whole inside a f b r none some (Some upper) bound =
@@ -79,9 +82,11 @@ space row whole inside a f b r none some (Some upper) bound =
     (λ is. some ∙ (sym (get-set_same row_order row k (Some r)) ∙ is))
     (λ other is. inside q v (sym (get-set_other row_order row k (Some r) q other) ∙ is)) in
     let less = no_more next whole inside' a f in
-    let sum : count (of a f) next + counts (of a f) k (get row k) ≡ count (of a f) row + counts (of a f) k (Some r) = count-set row_order (of a f) row k (Some r) in
+    let sum : count (of a f) next + counts (of a f) k (get row k) ≡ count (of a f) row + counts (of a f) k (Some r) =
+    count-set row_order (of a f) row k (Some r) in
     let was : counts (of a f) k (get row k) ≡ 0 = ap (counts (of a f) k) none in
-    let now : ◌≡◌ {A = ℕ} (counts (of a f) k (Some r)) 1 = ap (λ t. cond t 1 0) (and_both (text_eq a a) (nat_eq f f) (text_equality.own a) (nat_equality.own f)) in
+    let now : ◌≡◌ {A = ℕ} (counts (of a f) k (Some r)) 1 =
+    ap (λ t. cond t 1 0) (and_both (text_eq a a) (nat_eq f f) (text_equality.own a) (nat_equality.own f)) in
     below (count (of a f) row) (count (of a f) next) (count (of a f) whole) _ _ upper sum was now less bound
   where
     below : (n k w c d upper : ℕ) → k + c ≡ n + d → c ≡ 0 → d ≡ 1 → k ≤ w → is_within w (Some upper) ≡ true → is_below n (Some upper) ≡ true
@@ -95,7 +100,9 @@ module _ (names : List IdBytes) (differ : ids_differ names ≡ true) (i : ℕ) (
   mine : (t : Turn) → t.row < length names → p (key_of names t, rank_of t.index) ≡ is_mine i h t
   mine t less = ap (λ b. b && nat_eq h t.feature) (same_at names differ i t.row small less)
 
-  pub count_turns : (ts : List Turn) (row : Rows) → Each (λ t. t.row < length names) ts → count (λ (e : RowKey × ℕ). is_of (name_at names i) h e.0) (turns_set names row ts) ≤ count (λ (e : RowKey × ℕ). is_of (name_at names i) h e.0) row + tally (is_mine i h) ts
+  pub count_turns : (ts : List Turn) (row : Rows) → Each (λ t. t.row < length names) ts
+      → count (λ (e : RowKey × ℕ). is_of (name_at names i) h e.0) (turns_set names row ts) ≤ count
+      (λ (e : RowKey × ℕ). is_of (name_at names i) h e.0) row + tally (is_mine i h) ts
   count_turns [] row all = own (count p row)
     where
       own : (n : ℕ) → n ≤ n + 0
@@ -104,9 +111,11 @@ module _ (names : List IdBytes) (differ : ids_differ names ≡ true) (i : ℕ) (
       let k = key_of names t in
       let next = turn_set names row t in
       let rest = count_turns ts next all.1 in
-      let sum : count p next + counts p k (get row k) ≡ count p row + counts p k (Some (rank_of t.index)) = count-set row_order p row k (Some (rank_of t.index)) in
+      let sum : count p next + counts p k (get row k) ≡ count p row + counts p k (Some (rank_of t.index)) =
+      count-set row_order p row k (Some (rank_of t.index)) in
       let one : ◌≡◌ {A = ℕ} (counts p k (Some (rank_of t.index))) (cond (is_mine i h t) 1 0) = ap (λ b. cond b 1 0) (mine t all.0) in
-      added (count p (turns_set names next ts)) (count p next) (counts p k (get row k)) (count p row) (counts p k (Some (rank_of t.index))) (cond (is_mine i h t) 1 0) (tally (is_mine i h) ts) rest sum one
+      added (count p (turns_set names next ts)) (count p next) (counts p k (get row k)) (count p row) (counts p k (Some (rank_of t.index)))
+      (cond (is_mine i h t) 1 0) (tally (is_mine i h) ts) rest sum one
     where
       added : (last next was row one one' more : ℕ) → last ≤ next + more → next + was ≡ row + one → one ≡ one' → last ≤ row + (one' + more)
       added last next was row one one' more h g e = omega arith

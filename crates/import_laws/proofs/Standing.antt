@@ -40,7 +40,8 @@ none_stands s e dead [] stand = refl
 none_stands s e dead (x ∷ xs) stand = or_none (text_eq e x.id) _ (live_differ s e x.id dead stand.0) (none_stands s e dead xs stand.3)
 
 -- ---- another element gets a rank
-ranks_still : (s : State) (x : IdBytes) (v : Option ℕ) (xs : List Entry) → list_any (λ (y : Entry). text_eq x y.id) xs ≡ false → Stand s xs → Stand (record s { prank = set s.prank x v }) xs
+ranks_still : (s : State) (x : IdBytes) (v : Option ℕ) (xs : List Entry) → list_any (λ (y : Entry). text_eq x y.id) xs ≡ false → Stand s xs
+    → Stand (record s { prank = set s.prank x v }) xs
 ranks_still s x v [] differ stand = tt
 ranks_still s x v (y ∷ ys) differ stand = (
   stand.0,
@@ -53,7 +54,8 @@ ranks_still s x v (y ∷ ys) differ stand = (
 abbrev pub with_new : State → IdBytes → ℕ → Place → Ranks → State
 with_new s e c p prank = record s { kind = set s.kind e (Some c); place = set s.place e (Some p); prank = prank }
 
-stands_still : (s : State) (e : IdBytes) (c : ℕ) (p : Place) (v : Option ℕ) → is_live s e ≡ false → (xs : List Entry) → Stand s xs → Stand (with_new s e c p (set s.prank e v)) xs
+stands_still : (s : State) (e : IdBytes) (c : ℕ) (p : Place) (v : Option ℕ) → is_live s e ≡ false → (xs : List Entry) → Stand s xs
+    → Stand (with_new s e c p (set s.prank e v)) xs
 stands_still s e c p v dead [] stand = tt
 stands_still s e c p v dead (x ∷ xs) stand =
     let other = names_differ e x.id (live_differ s e x.id dead stand.0) in (
@@ -64,17 +66,20 @@ stands_still s e c p v dead (x ∷ xs) stand =
     )
 
 -- ---- the elements are renumbered
-ranked_other : (x : IdBytes) (xs : List Entry) (rs : List ℕ) (prank : Ranks) → list_any (λ (y : Entry). text_eq x y.id) xs ≡ false → get (ranked_places xs rs prank) x ≡ get prank x
+ranked_other : (x : IdBytes) (xs : List Entry) (rs : List ℕ) (prank : Ranks) → list_any (λ (y : Entry). text_eq x y.id) xs ≡ false
+    → get (ranked_places xs rs prank) x ≡ get prank x
 ranked_other x [] rs prank differ = refl
 ranked_other x (y ∷ ys) [] prank differ = refl
 ranked_other x (y ∷ ys) (r ∷ rs) prank differ =
     ranked_other x ys rs (set prank y.id (Some r)) (or_second (text_eq x y.id) _ differ)
     ∙ get-set_other id_order prank y.id (Some r) x (names_differ y.id x (apart text_eq text_equality x y.id (or_first (text_eq x y.id) _ differ)))
 
-none_ranked : (x : IdBytes) (xs : List Entry) (rs : List ℕ) → list_any (λ (y : Entry). text_eq x y.id) xs ≡ false → list_any (λ (y : Entry). text_eq x y.id) (with_ranks xs rs) ≡ false
+none_ranked : (x : IdBytes) (xs : List Entry) (rs : List ℕ) → list_any (λ (y : Entry). text_eq x y.id) xs ≡ false
+    → list_any (λ (y : Entry). text_eq x y.id) (with_ranks xs rs) ≡ false
 none_ranked x [] rs differ = refl
 none_ranked x (y ∷ ys) [] differ = refl
-none_ranked x (y ∷ ys) (r ∷ rs) differ = or_none (text_eq x y.id) _ (or_first (text_eq x y.id) _ differ) (none_ranked x ys rs (or_second (text_eq x y.id) _ differ))
+none_ranked x (y ∷ ys) (r ∷ rs) differ =
+    or_none (text_eq x y.id) _ (or_first (text_eq x y.id) _ differ) (none_ranked x ys rs (or_second (text_eq x y.id) _ differ))
 
 stand_ranked : (s : State) (xs : List Entry) (rs : List ℕ) → Stand s xs → Stand (record s { prank = ranked_places xs rs s.prank }) (with_ranks xs rs)
 stand_ranked s [] rs stand = tt
@@ -87,11 +92,13 @@ stand_ranked s (x ∷ xs) (r ∷ rs) stand = (
 )
 
 -- ---- an element after the last
-none_more : (x : IdBytes) (xs : List Entry) (y : Entry) → list_any (λ (z : Entry). text_eq x z.id) xs ≡ false → text_eq x y.id ≡ false → list_any (λ (z : Entry). text_eq x z.id) (xs ++ (y ∷ [])) ≡ false
+none_more : (x : IdBytes) (xs : List Entry) (y : Entry) → list_any (λ (z : Entry). text_eq x z.id) xs ≡ false → text_eq x y.id ≡ false
+    → list_any (λ (z : Entry). text_eq x z.id) (xs ++ (y ∷ [])) ≡ false
 none_more x [] y none other = or_none (text_eq x y.id) false other refl
 none_more x (z ∷ zs) y none other = or_none (text_eq x z.id) _ (or_first (text_eq x z.id) _ none) (none_more x zs y (or_second (text_eq x z.id) _ none) other)
 
-stand_last : (s : State) (xs : List Entry) (y : Entry) → is_live s y.id ≡ true → get s.prank y.id ≡ Some y.rank → list_any (λ (z : Entry). text_eq y.id z.id) xs ≡ false → Stand s xs → Stand s (xs ++ (y ∷ []))
+stand_last : (s : State) (xs : List Entry) (y : Entry) → is_live s y.id ≡ true → get s.prank y.id ≡ Some y.rank
+    → list_any (λ (z : Entry). text_eq y.id z.id) xs ≡ false → Stand s xs → Stand s (xs ++ (y ∷ []))
 stand_last s [] y live rank none stand = (live, rank, refl, tt)
 stand_last s (x ∷ xs) y live rank none stand = (
   stand.0,
@@ -106,8 +113,10 @@ pub record Arrives (meta : Meta) (s : State) (ss : List Step) (s' : State) (xs :
   pub good : Good meta s'
   pub stand : Stand s' xs
 
-module _ (meta : Meta) (sound : Sound meta) (s : State) (good : Good meta s) (xs : List Entry) (stand : Stand s xs) (e : IdBytes) (c : ℕ) (dead : is_live s e ≡ false) (concrete : is_concrete meta c ≡ true) where
-  root_arrives : (k : ℕ) → news.has_room xs Root ≡ true → Arrives meta s (news.element_made xs Root e c k) (with_new s e c Root (ranks_after xs Root e k s.prank)) (news.roots_after xs Root e)
+module _ (meta : Meta) (sound : Sound meta) (s : State) (good : Good meta s) (xs : List Entry) (stand : Stand s xs) (e : IdBytes) (c : ℕ)
+    (dead : is_live s e ≡ false) (concrete : is_concrete meta c ≡ true) where
+  root_arrives : (k : ℕ) → news.has_room xs Root ≡ true
+      → Arrives meta s (news.element_made xs Root e c k) (with_new s e c Root (ranks_after xs Root e k s.prank)) (news.roots_after xs Root e)
   root_arrives k room =
       let spot = end_spot xs in
       let rank = unwrap_or spot.rank 0 in
@@ -118,17 +127,21 @@ module _ (meta : Meta) (sound : Sound meta) (s : State) (good : Good meta s) (xs
       let before = stand_ranked s xs spot.ranks stand in
       let here = stands_still n e c Root (Some rank) dead (with_ranks xs spot.ranks) before in
       let last = stand_last (with_new n e c Root (set n.prank e (Some rank))) (with_ranks xs spot.ranks) (record { rank = rank; id = e })
-      (ap is_some (get-set_same id_order n.kind e (Some c))) (get-set_same id_order n.prank e (Some rank)) (none_stands n e dead (with_ranks xs spot.ranks) before) here in
+      (ap is_some (get-set_same id_order n.kind e (Some c))) (get-set_same id_order n.prank e (Some rank))
+      (none_stands n e dead (with_ranks xs spot.ranks) before) here in
       record {
-        run = fold_append meta s n (rerank_places xs spot.ranks) (New e c Root rank ∷ []) first.run ∙ fold_more meta n (New e c Root rank) [] can ∙ ap (λ w. Some (with_new n e c Root (set n.prank e w))) (sym is);
+        run = fold_append meta s n (rerank_places xs spot.ranks) (New e c Root rank ∷ []) first.run ∙ fold_more meta n (New e c Root rank) [] can
+            ∙ ap (λ w. Some (with_new n e c Root (set n.prank e w))) (sym is);
         good = subst (λ w. Good meta (with_new n e c Root (set n.prank e w))) (sym is) (undoes meta sound n first.good (New e c Root rank) can).keeps;
         stand = subst (λ w. Stand (with_new n e c Root (set n.prank e w)) (with_ranks xs spot.ranks ++ record { rank = rank; id = e } ∷ [])) (sym is) last;
       }
 
   inside_arrives : (a : IdBytes) (f k : ℕ) → place_live s (Inside a f) ≡ true → may_stand meta s c (Inside a f) ≡ true → has_room meta s (Inside a f) ≡ true
-      → Arrives meta s (news.element_made xs (Inside a f) e c k) (with_new s e c (Inside a f) (ranks_after xs (Inside a f) e k s.prank)) (news.roots_after xs (Inside a f) e)
+      → Arrives meta s (news.element_made xs (Inside a f) e c k) (with_new s e c (Inside a f) (ranks_after xs (Inside a f) e k s.prank))
+      (news.roots_after xs (Inside a f) e)
   inside_arrives a f k live typed room =
-      let can : Can meta s (New e c (Inside a f) (news.rank_of k)) = pass (tests meta s (New e c (Inside a f) (news.rank_of k))) (not_false _ dead, (live, (concrete, (typed, (room, tt))))) in
+      let can : Can meta s (New e c (Inside a f) (news.rank_of k)) =
+      pass (tests meta s (New e c (Inside a f) (news.rank_of k))) (not_false _ dead, (live, (concrete, (typed, (room, tt))))) in
       record {
         run = fold_more meta s (New e c (Inside a f) (news.rank_of k)) [] can;
         good = (undoes meta sound s good (New e c (Inside a f) (news.rank_of k)) can).keeps;

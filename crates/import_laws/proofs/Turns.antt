@@ -1,6 +1,7 @@
 -- The turns of a document's links: each target of each list of each row, in order.
 use Rattle.std.proofs.lemmas.Bool.Decides.{nat_tests}
-use Rattle.std.proofs.Common.{◌≡◌, ℕ, zero, suc, ◌+◌, ◌<◌, ◌≤◌, Bool, true, false, cond, not, ◌&&◌, ◌||◌, List, [], ◌∷◌, ◌++◌, map, length, drop, refl, sym, ap, subst, ◌∙◌, arith, append_assoc, nat_eq}
+use Rattle.std.proofs.Common.{◌≡◌, ℕ, zero, suc, ◌+◌, ◌<◌, ◌≤◌, Bool, true, false, cond, not, ◌&&◌, ◌||◌, List, [], ◌∷◌, ◌++◌, map, length, drop}
+use Rattle.std.proofs.Common.{refl, sym, ap, subst, ◌∙◌, arith, append_assoc, nat_eq}
 use Rattle.std.specs.Prelude.{Option, Some, slice_get}
 use Rattle.std.specs.List.{AllByRecursion, list_any}
 use Rattle.finite_maps.specs.Maps.{set, tally}
@@ -53,7 +54,9 @@ turn_steps meta names rows (t ∷ ts) = turn_step meta names rows t ++ turn_step
 module _ (meta : Meta) (names : List IdBytes) (rows : List DocRow) where
   steps_append : (ts us : List Turn) → turn_steps meta names rows (ts ++ us) ≡ turn_steps meta names rows ts ++ turn_steps meta names rows us
   steps_append [] us = refl
-  steps_append (t ∷ ts) us = ap (λ ss. turn_step meta names rows t ++ ss) (steps_append ts us) ∙ sym (append_assoc (turn_step meta names rows t) (turn_steps meta names rows ts) (turn_steps meta names rows us))
+  steps_append (t ∷ ts) us =
+      ap (λ ss. turn_step meta names rows t ++ ss) (steps_append ts us)
+      ∙ sym (append_assoc (turn_step meta names rows t) (turn_steps meta names rows ts) (turn_steps meta names rows us))
 
   steps_in : (n f k : ℕ) (bs : List ℕ) → targets_made meta names rows n (name_at names n) f k bs ≡ turn_steps meta names rows (turns_in n f k bs)
   steps_in n f k [] = refl
@@ -132,20 +135,27 @@ each_both P Q [] all more = tt
 each_both P Q (t ∷ ts) all more = ((all.0, more.0), each_both P Q ts all.1 more.1)
 
 module _ (P : Turn → Type 0) where
-  each_in : (n f : ℕ) (whole : List ℕ) (k : ℕ) (bs : List ℕ) → drop k whole ≡ bs → ((j b : ℕ) → slice_get whole j ≡ Some b → P (turn n f j b)) → Each P (turns_in n f k bs)
+  each_in : (n f : ℕ) (whole : List ℕ) (k : ℕ) (bs : List ℕ) → drop k whole ≡ bs → ((j b : ℕ) → slice_get whole j ≡ Some b → P (turn n f j b))
+      → Each P (turns_in n f k bs)
   each_in n f whole k [] left h = tt
   each_in n f whole k (b ∷ bs) left h = (h k b (drop_at k whole b bs left), each_in n f whole (suc k) bs (drop_next k whole b bs left) h)
 
-  each_of : (n : ℕ) (refs : List DocRefs) → ((l : ℕ) (q : DocRefs) → slice_get refs l ≡ Some q → (j b : ℕ) → slice_get q.targets j ≡ Some b → P (turn n q.feature j b)) → Each P (turns_of n refs)
+  each_of : (n : ℕ) (refs : List DocRefs)
+      → ((l : ℕ) (q : DocRefs) → slice_get refs l ≡ Some q → (j b : ℕ) → slice_get q.targets j ≡ Some b → P (turn n q.feature j b))
+      → Each P (turns_of n refs)
   each_of n [] h = tt
   each_of n (q ∷ refs) h =
-      each_append P (turns_in n q.feature 0 q.targets) (turns_of n refs) (each_in n q.feature q.targets 0 q.targets (drop_none q.targets) (h 0 q refl)) (each_of n refs (λ l. h (suc l)))
+      each_append P (turns_in n q.feature 0 q.targets) (turns_of n refs)
+      (each_in n q.feature q.targets 0 q.targets (drop_none q.targets) (h 0 q refl)) (each_of n refs (λ l. h (suc l)))
 
-  pub each_from : (rows rest : List DocRow) (n : ℕ) → drop n rows ≡ rest → ((i : ℕ) (r : DocRow) → slice_get rows i ≡ Some r → (l : ℕ) (q : DocRefs) → slice_get r.refs l ≡ Some q → (j b : ℕ) → slice_get q.targets j ≡ Some b → P (turn i q.feature j b))
+  pub each_from : (rows rest : List DocRow) (n : ℕ) → drop n rows ≡ rest
+      → ((i : ℕ) (r : DocRow) → slice_get rows i ≡ Some r → (l : ℕ) (q : DocRefs) → slice_get r.refs l ≡ Some q → (j b : ℕ)
+      → slice_get q.targets j ≡ Some b → P (turn i q.feature j b))
       → Each P (turns_from n rest)
   each_from rows [] n left h = tt
   each_from rows (r ∷ rest) n left h =
-      each_append P (turns_of n r.refs) (turns_from (suc n) rest) (each_of n r.refs (h n r (drop_at n rows r rest left))) (each_from rows rest (suc n) (drop_next n rows r rest left) h)
+      each_append P (turns_of n r.refs) (turns_from (suc n) rest) (each_of n r.refs (h n r (drop_at n rows r rest left)))
+      (each_from rows rest (suc n) (drop_next n rows r rest left) h)
 
 -- ---- each target has its turn
 module _ (Q : ℕ → ℕ → ℕ → Type 0) where
@@ -164,14 +174,18 @@ module _ (Q : ℕ → ℕ → ℕ → Type 0) where
   found_of n f b [] all h = cc
   found_of n f b (q ∷ refs) all h =
       elim (nat_eq f q.feature) as (λ t. nat_eq f q.feature ≡ t → list_any (nat_eq b) (cond t q.targets (targets_at f refs)) ≡ true → Q n f b) [
-        | true ↦ λ same here. subst (λ g. Q n g b) (sym (nat_equality.exact f q.feature same)) (found_in n q.feature 0 b q.targets (each_first OfTurn (turns_in n q.feature 0 q.targets) (turns_of n refs) all) here)
+        | true ↦ λ same here. subst (λ g. Q n g b) (sym (nat_equality.exact f q.feature same))
+            (found_in n q.feature 0 b q.targets (each_first OfTurn (turns_in n q.feature 0 q.targets) (turns_of n refs) all) here)
         | false ↦ λ _ later. found_of n f b refs (each_second OfTurn (turns_in n q.feature 0 q.targets) (turns_of n refs) all) later
       ] refl h
 
-  pub found_from : (rest : List DocRow) (n i : ℕ) (r : DocRow) (f b : ℕ) → Each OfTurn (turns_from n rest) → slice_get rest i ≡ Some r → list_any (nat_eq b) (targets_at f r.refs) ≡ true → (k : ℕ) → k ≡ n + i → Q k f b
+  pub found_from : (rest : List DocRow) (n i : ℕ) (r : DocRow) (f b : ℕ) → Each OfTurn (turns_from n rest) → slice_get rest i ≡ Some r
+      → list_any (nat_eq b) (targets_at f r.refs) ≡ true → (k : ℕ) → k ≡ n + i → Q k f b
   found_from [] n i r f b all is h k at = cc
   found_from (x ∷ rest) n zero r f b all is h k at =
-      subst (λ j. Q j f b) (sym (at ∙ first n)) (found_of n f b x.refs (each_first OfTurn (turns_of n x.refs) (turns_from (suc n) rest) all) (ap (λ y. list_any (nat_eq b) (targets_at f y)) (same_refs x r is) ∙ h))
+      subst (λ j. Q j f b) (sym (at ∙ first n))
+      (found_of n f b x.refs (each_first OfTurn (turns_of n x.refs) (turns_from (suc n) rest) all)
+      (ap (λ y. list_any (nat_eq b) (targets_at f y)) (same_refs x r is) ∙ h))
     where
       first : (n : ℕ) → n + 0 ≡ n
       first n = omega arith
@@ -209,11 +223,15 @@ no_second false b h = refl
 
 targets_differ : (n f k b : ℕ) (j : ℕ) (bs : List ℕ) → list_any (nat_eq b) bs ≡ false → Each (Other (turn n f k b)) (turns_in n f j bs)
 targets_differ n f k b j [] h = tt
-targets_differ n f k b j (c ∷ bs) h = (no_second (nat_eq n n) _ (no_second (nat_eq f f) _ (or_first (nat_eq b c) _ h)), targets_differ n f k b (suc j) bs (or_second (nat_eq b c) _ h))
+targets_differ n f k b j (c ∷ bs) h =
+    (no_second (nat_eq n n) _ (no_second (nat_eq f f) _ (or_first (nat_eq b c) _ h)), targets_differ n f k b (suc j) bs (or_second (nat_eq b c) _ h))
 
 alone_in : (n f k : ℕ) (bs : List ℕ) → numbers_differ bs ≡ true → Alone (turns_in n f k bs)
 alone_in n f k [] h = tt
-alone_in n f k (b ∷ bs) h = (targets_differ n f k b (suc k) bs (not_true (list_any (nat_eq b) bs) (and_first _ _ h)), alone_in n f (suc k) bs (and_second (not (list_any (nat_eq b) bs)) _ h))
+alone_in n f k (b ∷ bs) h = (
+  targets_differ n f k b (suc k) bs (not_true (list_any (nat_eq b) bs) (and_first _ _ h)),
+  alone_in n f (suc k) bs (and_second (not (list_any (nat_eq b) bs)) _ h),
+)
 
 in_feature : (n f k : ℕ) (bs : List ℕ) → Each (λ t. (t.row ≡ n) × (t.feature ≡ f)) (turns_in n f k bs)
 in_feature n f k [] = tt
@@ -226,24 +244,33 @@ of_features : (n : ℕ) (refs : List DocRefs) → Each (λ t. (t.row ≡ n) × (
 of_features n [] = tt
 of_features n (q ∷ refs) =
     each_append _ (turns_in n q.feature 0 q.targets) (turns_of n refs)
-    (each_map (λ t. (t.row ≡ n) × (t.feature ≡ q.feature)) (λ t. (t.row ≡ n) × (nat_eq t.feature q.feature || list_any (nat_eq t.feature) (features refs) ≡ true)) (λ t is. (is.0, ap (λ b. b || list_any (nat_eq t.feature) (features refs)) (ap (λ g. nat_eq g q.feature) is.1 ∙ nat_equality.own q.feature))) (turns_in n q.feature 0 q.targets) (in_feature n q.feature 0 q.targets))
-    (each_map (λ t. (t.row ≡ n) × (list_any (nat_eq t.feature) (features refs) ≡ true)) (λ t. (t.row ≡ n) × (nat_eq t.feature q.feature || list_any (nat_eq t.feature) (features refs) ≡ true)) (λ t is. (is.0, or_later (nat_eq t.feature q.feature) _ is.1)) (turns_of n refs) (of_features n refs))
+    (each_map (λ t. (t.row ≡ n) × (t.feature ≡ q.feature))
+    (λ t. (t.row ≡ n) × (nat_eq t.feature q.feature || list_any (nat_eq t.feature) (features refs) ≡ true))
+    (λ t is. (is.0, ap (λ b. b || list_any (nat_eq t.feature) (features refs)) (ap (λ g. nat_eq g q.feature) is.1 ∙ nat_equality.own q.feature)))
+    (turns_in n q.feature 0 q.targets) (in_feature n q.feature 0 q.targets))
+    (each_map (λ t. (t.row ≡ n) × (list_any (nat_eq t.feature) (features refs) ≡ true))
+    (λ t. (t.row ≡ n) × (nat_eq t.feature q.feature || list_any (nat_eq t.feature) (features refs) ≡ true))
+    (λ t is. (is.0, or_later (nat_eq t.feature q.feature) _ is.1)) (turns_of n refs) (of_features n refs))
 
-alone_of : (n : ℕ) (refs : List DocRefs) → numbers_differ (features refs) ≡ true → ((l : ℕ) (q : DocRefs) → slice_get refs l ≡ Some q → numbers_differ q.targets ≡ true) → Alone (turns_of n refs)
+alone_of : (n : ℕ) (refs : List DocRefs) → numbers_differ (features refs) ≡ true
+    → ((l : ℕ) (q : DocRefs) → slice_get refs l ≡ Some q → numbers_differ q.targets ≡ true) → Alone (turns_of n refs)
 alone_of n [] h each = tt
 alone_of n (q ∷ refs) h each =
     let away : list_any (nat_eq q.feature) (features refs) ≡ false = not_true (list_any (nat_eq q.feature) (features refs)) (and_first _ _ h) in
-    alone_append (turns_in n q.feature 0 q.targets) (turns_of n refs) (alone_in n q.feature 0 q.targets (each 0 q refl)) (alone_of n refs (and_second (not (list_any (nat_eq q.feature) (features refs))) _ h) (λ l. each (suc l)))
+    alone_append (turns_in n q.feature 0 q.targets) (turns_of n refs) (alone_in n q.feature 0 q.targets (each 0 q refl))
+    (alone_of n refs (and_second (not (list_any (nat_eq q.feature) (features refs))) _ h) (λ l. each (suc l)))
     (each_each (λ t. (t.row ≡ n) × (t.feature ≡ q.feature)) (λ t. (t.row ≡ n) × (list_any (nat_eq t.feature) (features refs) ≡ true))
     (λ t u is has. no_second (nat_eq t.row u.row) _ (no_first (nat_eq t.feature u.feature) _ (not_so (nat_eq t.feature u.feature) (λ same.
-    true_false (list_any (nat_eq u.feature) (features refs)) has.1 (ap (λ g. list_any (nat_eq g) (features refs)) (sym (nat_equality.exact t.feature u.feature same) ∙ is.1) ∙ away)))))
+    true_false (list_any (nat_eq u.feature) (features refs)) has.1
+    (ap (λ g. list_any (nat_eq g) (features refs)) (sym (nat_equality.exact t.feature u.feature same) ∙ is.1) ∙ away)))))
     (turns_in n q.feature 0 q.targets) (turns_of n refs) (in_feature n q.feature 0 q.targets) (of_features n refs))
 
 behind_rows : (n : ℕ) (rest : List DocRow) → Each (λ t. n ≤ t.row) (turns_from n rest)
 behind_rows n [] = tt
 behind_rows n (r ∷ rest) =
     each_append _ (turns_of n r.refs) (turns_from (suc n) rest)
-    (each_map (λ t. (t.row ≡ n) × (list_any (nat_eq t.feature) (features r.refs) ≡ true)) (λ t. n ≤ t.row) (λ t is. own n t.row is.0) (turns_of n r.refs) (of_features n r.refs))
+    (each_map (λ t. (t.row ≡ n) × (list_any (nat_eq t.feature) (features r.refs) ≡ true)) (λ t. n ≤ t.row) (λ t is. own n t.row is.0)
+    (turns_of n r.refs) (of_features n r.refs))
     (each_map (λ t. suc n ≤ t.row) (λ t. n ≤ t.row) (λ t h. less n t.row h) (turns_from (suc n) rest) (behind_rows (suc n) rest))
   where
     own : (n k : ℕ) → k ≡ n → n ≤ k
@@ -252,14 +279,18 @@ behind_rows n (r ∷ rest) =
     less : (n k : ℕ) → suc n ≤ k → n ≤ k
     less n k h = omega arith
 
-pub alone_from : (rows rest : List DocRow) (n : ℕ) → drop n rows ≡ rest → ((i : ℕ) (r : DocRow) → slice_get rows i ≡ Some r → numbers_differ (map (λ (q : DocRefs). q.feature) r.refs) ≡ true)
-    → ((i : ℕ) (r : DocRow) → slice_get rows i ≡ Some r → (l : ℕ) (q : DocRefs) → slice_get r.refs l ≡ Some q → numbers_differ q.targets ≡ true) → Alone (turns_from n rest)
+pub alone_from : (rows rest : List DocRow) (n : ℕ) → drop n rows ≡ rest
+    → ((i : ℕ) (r : DocRow) → slice_get rows i ≡ Some r → numbers_differ (map (λ (q : DocRefs). q.feature) r.refs) ≡ true)
+    → ((i : ℕ) (r : DocRow) → slice_get rows i ≡ Some r → (l : ℕ) (q : DocRefs) → slice_get r.refs l ≡ Some q → numbers_differ q.targets ≡ true)
+    → Alone (turns_from n rest)
 alone_from rows [] n left h each = tt
 alone_from rows (r ∷ rest) n left h each =
     let here = drop_at n rows r rest left in
-    alone_append (turns_of n r.refs) (turns_from (suc n) rest) (alone_of n r.refs (h n r here) (each n r here)) (alone_from rows rest (suc n) (drop_next n rows r rest left) h each)
+    alone_append (turns_of n r.refs) (turns_from (suc n) rest) (alone_of n r.refs (h n r here) (each n r here))
+    (alone_from rows rest (suc n) (drop_next n rows r rest left) h each)
     (each_each (λ t. (t.row ≡ n) × (list_any (nat_eq t.feature) (features r.refs) ≡ true)) (λ t. suc n ≤ t.row)
-    (λ t u is later. no_first (nat_eq t.row u.row) _ (differ n t.row u.row is.0 later)) (turns_of n r.refs) (turns_from (suc n) rest) (of_features n r.refs) (behind_rows (suc n) rest))
+    (λ t u is later. no_first (nat_eq t.row u.row) _ (differ n t.row u.row is.0 later)) (turns_of n r.refs) (turns_from (suc n) rest)
+    (of_features n r.refs) (behind_rows (suc n) rest))
   where
     differ : (n a b : ℕ) → a ≡ n → suc n ≤ b → nat_eq a b ≡ false
     differ n a b is later = grind (arith, nat_tests)
@@ -274,7 +305,8 @@ tally_append p (t ∷ ts) us = let rest = tally_append p ts us in omega (arith, 
 
 tally_none : (p : Turn → Bool) (ts : List Turn) → Each (λ t. p t ≡ false) ts → tally p ts ≡ 0
 tally_none p [] all = refl
-tally_none p (t ∷ ts) all = let rest = tally_none p ts all.1 in let here : ◌≡◌ {A = ℕ} (cond (p t) 1 0) 0 = ap (λ b. cond b 1 0) all.0 in omega (arith, rest, here)
+tally_none p (t ∷ ts) all = let rest = tally_none p ts all.1 in let here : ◌≡◌ {A = ℕ} (cond (p t) 1 0) 0 = ap (λ b. cond b 1 0) all.0
+    in omega (arith, rest, here)
 
 tally_all : (i h n f k : ℕ) (bs : List ℕ) → nat_eq i n ≡ true → nat_eq h f ≡ true → tally (is_mine i h) (turns_in n f k bs) ≡ length bs
 tally_all i h n f k [] e g = refl
@@ -285,36 +317,53 @@ tally_all i h n f k (b ∷ bs) e g =
 
 -- none of a feature that has no list
 tally_missing : (i h n : ℕ) (refs : List DocRefs) → list_any (nat_eq h) (features refs) ≡ false → tally (is_mine i h) (turns_of n refs) ≡ 0
-tally_missing i h n refs away = tally_none (is_mine i h) (turns_of n refs) (each_map (λ t. (t.row ≡ n) × (list_any (nat_eq t.feature) (features refs) ≡ true)) (λ t. is_mine i h t ≡ false)
-    (λ t is. no_second (nat_eq i t.row) _ (not_so (nat_eq h t.feature) (λ same. true_false (list_any (nat_eq t.feature) (features refs)) is.1 (ap (λ g. list_any (nat_eq g) (features refs)) (sym (nat_equality.exact h t.feature same)) ∙ away)))) (turns_of n refs) (of_features n refs))
+tally_missing i h n refs away =
+    tally_none (is_mine i h) (turns_of n refs)
+    (each_map (λ t. (t.row ≡ n) × (list_any (nat_eq t.feature) (features refs) ≡ true)) (λ t. is_mine i h t ≡ false)
+    (λ t is. no_second (nat_eq i t.row) _
+    (not_so (nat_eq h t.feature)
+    (λ same. true_false (list_any (nat_eq t.feature) (features refs)) is.1
+    (ap (λ g. list_any (nat_eq g) (features refs)) (sym (nat_equality.exact h t.feature same)) ∙ away)))) (turns_of n refs) (of_features n refs))
 
 tally_of : (i h : ℕ) (refs : List DocRefs) → numbers_differ (features refs) ≡ true → tally (is_mine i h) (turns_of i refs) ≡ length (targets_at h refs)
 tally_of i h [] ok = refl
 tally_of i h (q ∷ refs) ok =
     tally_append (is_mine i h) (turns_in i q.feature 0 q.targets) (turns_of i refs)
-    ∙ elim (nat_eq h q.feature) as (λ b. nat_eq h q.feature ≡ b → tally (is_mine i h) (turns_in i q.feature 0 q.targets) + tally (is_mine i h) (turns_of i refs) ≡ length (cond b q.targets (targets_at h refs))) [
+    ∙ elim (nat_eq h q.feature) as (λ b. nat_eq h q.feature ≡ b
+    → tally (is_mine i h) (turns_in i q.feature 0 q.targets) + tally (is_mine i h) (turns_of i refs) ≡ length
+    (cond b q.targets (targets_at h refs))) [
       | true ↦ λ same.
           let mine = tally_all i h i q.feature 0 q.targets (nat_equality.own i) same in
-          let none = tally_missing i h i refs (ap (λ g. list_any (nat_eq g) (features refs)) (nat_equality.exact h q.feature same) ∙ not_true (list_any (nat_eq q.feature) (features refs)) (and_first _ _ ok)) in
+          let none = tally_missing i h i refs
+          (ap (λ g. list_any (nat_eq g) (features refs)) (nat_equality.exact h q.feature same)
+          ∙ not_true (list_any (nat_eq q.feature) (features refs)) (and_first _ _ ok)) in
           omega (arith, mine, none)
       | false ↦ λ other.
-          let none = tally_none (is_mine i h) (turns_in i q.feature 0 q.targets) (each_map (λ t. (t.row ≡ i) × (t.feature ≡ q.feature)) (λ t. is_mine i h t ≡ false) (λ t is. no_second (nat_eq i t.row) _ (ap (nat_eq h) is.1 ∙ other)) (turns_in i q.feature 0 q.targets) (in_feature i q.feature 0 q.targets)) in
+          let none = tally_none (is_mine i h) (turns_in i q.feature 0 q.targets)
+          (each_map (λ t. (t.row ≡ i) × (t.feature ≡ q.feature)) (λ t. is_mine i h t ≡ false)
+          (λ t is. no_second (nat_eq i t.row) _ (ap (nat_eq h) is.1 ∙ other)) (turns_in i q.feature 0 q.targets)
+          (in_feature i q.feature 0 q.targets)) in
           let rest = tally_of i h refs (and_second (not (list_any (nat_eq q.feature) (features refs))) _ ok) in
           omega (arith, none, rest)
     ] refl
 
 tally_before : (i h n : ℕ) (rest : List DocRow) → i < n → tally (is_mine i h) (turns_from n rest) ≡ 0
-tally_before i h n rest less = tally_none (is_mine i h) (turns_from n rest) (each_map (λ t. n ≤ t.row) (λ t. is_mine i h t ≡ false) (λ t later. no_first (nat_eq i t.row) _ (differ i n t.row less later)) (turns_from n rest) (behind_rows n rest))
+tally_before i h n rest less =
+    tally_none (is_mine i h) (turns_from n rest)
+    (each_map (λ t. n ≤ t.row) (λ t. is_mine i h t ≡ false) (λ t later. no_first (nat_eq i t.row) _ (differ i n t.row less later)) (turns_from n rest)
+    (behind_rows n rest))
   where
     differ : (i n k : ℕ) → i < n → n ≤ k → nat_eq i k ≡ false
     differ i n k h g = grind (arith, nat_tests)
 
-pub tally_from : (rest : List DocRow) (n i k h : ℕ) (r : DocRow) → slice_get rest i ≡ Some r → k ≡ n + i → numbers_differ (map (λ (q : DocRefs). q.feature) r.refs) ≡ true → tally (is_mine k h) (turns_from n rest) ≡ length (targets_at h r.refs)
+pub tally_from : (rest : List DocRow) (n i k h : ℕ) (r : DocRow) → slice_get rest i ≡ Some r → k ≡ n + i
+    → numbers_differ (map (λ (q : DocRefs). q.feature) r.refs) ≡ true → tally (is_mine k h) (turns_from n rest) ≡ length (targets_at h r.refs)
 tally_from [] n i k h r is at ok = cc
 tally_from (x ∷ rest) n zero k h r is at ok =
     let here : k ≡ n = at ∙ first n in
     let same : x.refs ≡ r.refs = same_refs x r is in
-    let mine : tally (is_mine n h) (turns_of n x.refs) ≡ length (targets_at h r.refs) = ap (λ y. tally (is_mine n h) (turns_of n y)) same ∙ tally_of n h r.refs ok in
+    let mine : tally (is_mine n h) (turns_of n x.refs) ≡ length (targets_at h r.refs) =
+    ap (λ y. tally (is_mine n h) (turns_of n y)) same ∙ tally_of n h r.refs ok in
     let none = tally_before n h (suc n) rest (less n) in
     let sum = tally_append (is_mine n h) (turns_of n x.refs) (turns_from (suc n) rest) in
     ap (λ j. tally (is_mine j h) (turns_of n x.refs ++ turns_from (suc n) rest)) here ∙ omega (arith, mine, none, sum)
@@ -328,7 +377,10 @@ tally_from (x ∷ rest) n zero k h r is at ok =
     same_refs : (x r : DocRow) → ◌≡◌ {A = Option DocRow} (Some x) (Some r) → x.refs ≡ r.refs
     same_refs x r is = cc
 tally_from (x ∷ rest) n (suc i) k h r is at ok =
-    let none : tally (is_mine k h) (turns_of n x.refs) ≡ 0 = tally_none (is_mine k h) (turns_of n x.refs) (each_map (λ t. (t.row ≡ n) × (list_any (nat_eq t.feature) (features x.refs) ≡ true)) (λ t. is_mine k h t ≡ false) (λ t is. no_first (nat_eq k t.row) _ (differ k n i t.row at is.0)) (turns_of n x.refs) (of_features n x.refs)) in
+    let none : tally (is_mine k h) (turns_of n x.refs) ≡ 0 =
+    tally_none (is_mine k h) (turns_of n x.refs)
+    (each_map (λ t. (t.row ≡ n) × (list_any (nat_eq t.feature) (features x.refs) ≡ true)) (λ t. is_mine k h t ≡ false)
+    (λ t is. no_first (nat_eq k t.row) _ (differ k n i t.row at is.0)) (turns_of n x.refs) (of_features n x.refs)) in
     let later = tally_from rest (suc n) i k h r is (at ∙ further n i) ok in
     let sum = tally_append (is_mine k h) (turns_of n x.refs) (turns_from (suc n) rest) in
     omega (arith, none, later, sum)

@@ -1,6 +1,7 @@
 -- The elements of a document get their values.
 use Rattle.std.proofs.lemmas.Bool.Decides.{nat_tests}
-use Rattle.std.proofs.Common.{◌≡◌, ℕ, suc, ◌+◌, ◌<◌, ◌≤◌, Bool, true, false, cond, not, ◌&&◌, ◌||◌, List, [], ◌∷◌, ◌++◌, map, length, drop, refl, sym, ap, subst, ◌∙◌, arith, append_assoc, append-nil, length-append, nat_eq, nat_le, nat_lt}
+use Rattle.std.proofs.Common.{◌≡◌, ℕ, suc, ◌+◌, ◌<◌, ◌≤◌, Bool, true, false, cond, not, ◌&&◌, ◌||◌, List, [], ◌∷◌, ◌++◌, map, length, drop, refl, sym}
+use Rattle.std.proofs.Common.{ap, subst, ◌∙◌, arith, append_assoc, append-nil, length-append, nat_eq, nat_le, nat_lt}
 use Rattle.std.specs.Prelude.{Option, None, Some, is_some, min, slice_get}
 use Rattle.std.specs.List.{insert, list_all, list_any}
 use Rattle.std.specs.Ordering.{eq_by_cmp}
@@ -53,7 +54,8 @@ differ_middle (d ∷ done) v vs h =
     not_there [] g = or_first (value_eq d v) _ g
     not_there (x ∷ ds) g = not_there ds (or_second (value_eq d x) _ g)
 
-once : (unique : Bool) (done : List Value) (v : Value) (vs : List Value) → cond unique (is_distinct (done ++ (v ∷ vs))) true ≡ true → unique && list_any (value_eq v) done ≡ false
+once : (unique : Bool) (done : List Value) (v : Value) (vs : List Value) → cond unique (is_distinct (done ++ (v ∷ vs))) true ≡ true
+    → unique && list_any (value_eq v) done ≡ false
 once true done v vs h = differ_middle done v vs h
 once false done v vs h = refl
 
@@ -94,8 +96,10 @@ module _ (meta : Meta) (s : State) where
     class_is : class_has meta (get s.kind e) f ≡ true
     class_is = ap (λ o. class_has meta o f) kind ∙ has
 
-    insert_can : (scalar : Scalar) (unique : Bool) → kind_of meta f ≡ AttrMany scalar unique → (done : List Value) (v : Value) (vs : List Value) (attr : Attrs) → get attr (e, f) ≡ entry_of done
-        → list_all (fits meta scalar) (done ++ (v ∷ vs)) ≡ true → is_within (length (done ++ (v ∷ vs))) (upper_of meta f) ≡ true → length (done ++ (v ∷ vs)) ≤ most_entries → cond unique (is_distinct (done ++ (v ∷ vs))) true ≡ true
+    insert_can : (scalar : Scalar) (unique : Bool) → kind_of meta f ≡ AttrMany scalar unique
+        → (done : List Value) (v : Value) (vs : List Value) (attr : Attrs) → get attr (e, f) ≡ entry_of done
+        → list_all (fits meta scalar) (done ++ (v ∷ vs)) ≡ true → is_within (length (done ++ (v ∷ vs))) (upper_of meta f) ≡ true
+        → length (done ++ (v ∷ vs)) ≤ most_entries → cond unique (is_distinct (done ++ (v ∷ vs))) true ≡ true
         → Can meta (valued attr) (Ins e f (length done) v)
     insert_can scalar unique is done v vs attr entry typed within few distinct =
         let held : values_of (get attr (e, f)) ≡ done = ap values_of entry ∙ part done in
@@ -112,7 +116,8 @@ module _ (meta : Meta) (s : State) where
                 (
                   ap (λ ws. nat_le (length done) (length ws)) held ∙ own_le (length done),
                   (
-                    ap (λ k. not (is_unique k && list_any (value_eq v) (values_of (get attr (e, f))))) is ∙ ap (λ ws. not (unique && list_any (value_eq v) ws)) held ∙ ap not (once unique done v vs distinct),
+                    ap (λ k. not (is_unique k && list_any (value_eq v) (values_of (get attr (e, f))))) is
+                        ∙ ap (λ ws. not (unique && list_any (value_eq v) ws)) held ∙ ap not (once unique done v vs distinct),
                     (
                       ap (λ ws. is_below (length ws) (upper_of meta f)) held ∙ room (length done) (length (done ++ (v ∷ vs))) (upper_of meta f) more within,
                       (ap (λ ws. nat_lt (length ws) most_entries) held ∙ is_less (length done) most_entries less, tt),
@@ -124,8 +129,10 @@ module _ (meta : Meta) (s : State) where
           ),
         )
 
-    inserts_lead : (scalar : Scalar) (unique : Bool) → kind_of meta f ≡ AttrMany scalar unique → (vs done : List Value) (attr : Attrs) → get attr (e, f) ≡ entry_of done
-        → list_all (fits meta scalar) (done ++ vs) ≡ true → is_within (length (done ++ vs)) (upper_of meta f) ≡ true → length (done ++ vs) ≤ most_entries → cond unique (is_distinct (done ++ vs)) true ≡ true
+    inserts_lead : (scalar : Scalar) (unique : Bool) → kind_of meta f ≡ AttrMany scalar unique → (vs done : List Value) (attr : Attrs)
+        → get attr (e, f) ≡ entry_of done
+        → list_all (fits meta scalar) (done ++ vs) ≡ true → is_within (length (done ++ vs)) (upper_of meta f) ≡ true
+        → length (done ++ vs) ≤ most_entries → cond unique (is_distinct (done ++ vs)) true ≡ true
         → fold meta (valued attr) (inserts_made e f (length done) vs) ≡ Some (valued (set attr (e, f) (entry_of (done ++ vs))))
     inserts_lead scalar unique is [] done attr entry typed within few distinct =
         ap (λ a. Some (valued a)) (sym (set_here attr_order attr (e, f) (entry_of (done ++ [])) (entry ∙ ap entry_of (sym (append-nil done)))))
@@ -134,22 +141,26 @@ module _ (meta : Meta) (s : State) where
         let moved : done ++ (v ∷ vs) ≡ next ++ vs = sym (append_assoc done (v ∷ []) vs) in
         let attr' = set attr (e, f) (entry_of next) in
         let held : values_of (get attr (e, f)) ≡ done = ap values_of entry ∙ part done in
-        let put : set attr (e, f) (entry_of (insert (values_of (get attr (e, f))) (length done) v)) ≡ attr' = ap (λ ws. set attr (e, f) (entry_of (insert ws (length done) v))) held ∙ ap (λ ws. set attr (e, f) (entry_of ws)) (insert_last done v) in
+        let put : set attr (e, f) (entry_of (insert (values_of (get attr (e, f))) (length done) v)) ≡ attr' =
+        ap (λ ws. set attr (e, f) (entry_of (insert ws (length done) v))) held ∙ ap (λ ws. set attr (e, f) (entry_of ws)) (insert_last done v) in
         let size = length-append done (v ∷ []) in
         let more = longer done v vs in
         let count : min (length done + 1) most_entries ≡ length next = counted (length done) (length next) (length (done ++ (v ∷ vs))) size more few in
-        fold_more meta (valued attr) (Ins e f (length done) v) (inserts_made e f (min (length done + 1) most_entries) vs) (insert_can scalar unique is done v vs attr entry typed within few distinct)
+        fold_more meta (valued attr) (Ins e f (length done) v) (inserts_made e f (min (length done + 1) most_entries) vs)
+        (insert_can scalar unique is done v vs attr entry typed within few distinct)
         ∙ ap (λ a. fold meta (valued a) (inserts_made e f (min (length done + 1) most_entries) vs)) put
         ∙ ap (λ n. fold meta (valued attr') (inserts_made e f n vs)) count
         ∙ inserts_lead scalar unique is vs next attr' (get-set_same attr_order attr (e, f) (entry_of next))
         (subst (λ ws. list_all (fits meta scalar) ws ≡ true) moved typed) (subst (λ ws. is_within (length ws) (upper_of meta f) ≡ true) moved within)
         (subst (λ ws. length ws ≤ most_entries) moved few) (subst (λ ws. cond unique (is_distinct ws) true ≡ true) moved distinct)
-        ∙ ap (λ a. Some (valued a)) (set_twice attr_order attr (e, f) (entry_of next) (entry_of (next ++ vs)) ∙ ap (λ ws. set attr (e, f) (entry_of ws)) (sym moved))
+        ∙ ap (λ a. Some (valued a))
+        (set_twice attr_order attr (e, f) (entry_of next) (entry_of (next ++ vs)) ∙ ap (λ ws. set attr (e, f) (entry_of ws)) (sym moved))
       where
         counted : (n k t : ℕ) → k ≡ n + length (v ∷ []) → n + 1 ≤ t → t ≤ most_entries → min (n + 1) most_entries ≡ k
         counted n k t h g l = omega arith
 
-    put_can : (scalar : Scalar) (default : Option Value) → kind_of meta f ≡ Attr scalar default → (v : Value) (attr : Attrs) → get attr (e, f) ≡ None → fits meta scalar v ≡ true → is_default (Attr scalar default) v ≡ false
+    put_can : (scalar : Scalar) (default : Option Value) → kind_of meta f ≡ Attr scalar default → (v : Value) (attr : Attrs) → get attr (e, f) ≡ None
+        → fits meta scalar v ≡ true → is_default (Attr scalar default) v ≡ false
         → Can meta (valued attr) (Put e f None (Some v))
     put_can scalar default is v attr none typed differs =
         pass (tests meta (valued attr) (Put e f None (Some v))) (
@@ -181,7 +192,8 @@ module _ (meta : Meta) (s : State) where
     by_kind : (k : Kind) → kind_of meta f ≡ k → (vs : List Value) → ValuesOk meta k (upper_of meta f) vs → (attr : Attrs) → get attr (e, f) ≡ None
         → fold meta (valued attr) (cond (is_attr k) (put_made e f vs) (inserts_made e f 0 vs)) ≡ Some (valued (set attr (e, f) (Some vs)))
     by_kind (Attr scalar default) is [] ok attr none = absurd ok
-    by_kind (Attr scalar default) is (v ∷ []) ok attr none = fold_more meta (valued attr) (Put e f None (Some v)) [] (put_can scalar default is v attr none ok.0 ok.1)
+    by_kind (Attr scalar default) is (v ∷ []) ok attr none =
+        fold_more meta (valued attr) (Put e f None (Some v)) [] (put_can scalar default is v attr none ok.0 ok.1)
     by_kind (Attr scalar default) is (v ∷ w ∷ ws) ok attr none = absurd ok
     by_kind (AttrMany scalar unique) is [] ok attr none = absurd ok
     by_kind (AttrMany scalar unique) is (v ∷ vs) ok attr none = inserts_lead scalar unique is (v ∷ vs) [] attr none ok.0 ok.1 ok.2 ok.3
@@ -192,8 +204,10 @@ module _ (meta : Meta) (s : State) where
     by_kind Skip is vs ok attr none = absurd ok
 
   -- ---- the attributes of an element
-  attrs_lead : (e : IdBytes) (c : ℕ) → get s.kind e ≡ Some c → (attrs : List DocAttr) (attr : Attrs) → numbers_differ (map (λ (a : DocAttr). a.feature) attrs) ≡ true → ((k : ℕ) (a : DocAttr) → slice_get attrs k ≡ Some a → AttrFits meta c a)
-      → ((f : ℕ) → list_any (nat_eq f) (map (λ (a : DocAttr). a.feature) attrs) ≡ true → get attr (e, f) ≡ None) → fold meta (valued attr) (attrs_made meta e attrs) ≡ Some (valued (attrs_set e attr attrs))
+  attrs_lead : (e : IdBytes) (c : ℕ) → get s.kind e ≡ Some c → (attrs : List DocAttr) (attr : Attrs)
+      → numbers_differ (map (λ (a : DocAttr). a.feature) attrs) ≡ true → ((k : ℕ) (a : DocAttr) → slice_get attrs k ≡ Some a → AttrFits meta c a)
+      → ((f : ℕ) → list_any (nat_eq f) (map (λ (a : DocAttr). a.feature) attrs) ≡ true → get attr (e, f) ≡ None)
+      → fold meta (valued attr) (attrs_made meta e attrs) ≡ Some (valued (attrs_set e attr attrs))
   attrs_lead e c kind [] attr differ ok none = refl
   attrs_lead e c kind (a ∷ attrs) attr differ ok none =
       let f = a.feature in
@@ -201,21 +215,28 @@ module _ (meta : Meta) (s : State) where
       let fit : AttrFits meta c a = ok 0 a refl in
       let attr' = set attr (e, f) (Some a.values) in
       let away : list_any (nat_eq f) fs ≡ false = not_true (list_any (nat_eq f) fs) (and_first (not (list_any (nat_eq f) fs)) _ differ) in
-      let first : fold meta (valued attr) (attr_made meta e a) ≡ Some (valued attr') = by_kind e c f kind fit.0 (kind_of meta f) refl a.values fit.1 attr (none f (ap (λ b. b || list_any (nat_eq f) fs) (nat_equality.own f))) in
+      let first : fold meta (valued attr) (attr_made meta e a) ≡ Some (valued attr') =
+      by_kind e c f kind fit.0 (kind_of meta f) refl a.values fit.1 attr (none f (ap (λ b. b || list_any (nat_eq f) fs) (nat_equality.own f))) in
       fold_append meta (valued attr) (valued attr') (attr_made meta e a) (attrs_made meta e attrs) first
       ∙ attrs_lead e c kind attrs attr' (and_second (not (list_any (nat_eq f) fs)) _ differ) (λ k. ok (suc k))
       (λ g here.
-      let other : nat_eq g f ≡ false = not_so (nat_eq g f) (λ same. true_false (list_any (nat_eq g) fs) here (ap (λ n. list_any (nat_eq n) fs) (nat_equality.exact g f same) ∙ away)) in
+      let other : nat_eq g f ≡ false =
+      not_so (nat_eq g f) (λ same.
+      true_false (list_any (nat_eq g) fs) here (ap (λ n. list_any (nat_eq n) fs) (nat_equality.exact g f same) ∙ away)) in
       get-set_other attr_order attr (e, f) (Some a.values) (e, g) (features_apart e g f other) ∙ none g (ap (λ b. b || list_any (nat_eq g) fs) other ∙ here))
 
   attrs_other : (e x : IdBytes) (g : ℕ) → text_eq x e ≡ false → (attrs : List DocAttr) (attr : Attrs) → get (attrs_set e attr attrs) (x, g) ≡ get attr (x, g)
   attrs_other e x g differ [] attr = refl
-  attrs_other e x g differ (a ∷ attrs) attr = attrs_other e x g differ attrs (set attr (e, a.feature) (Some a.values)) ∙ get-set_other attr_order attr (e, a.feature) (Some a.values) (x, g) (keys_apart x e g a.feature differ)
+  attrs_other e x g differ (a ∷ attrs) attr =
+      attrs_other e x g differ attrs (set attr (e, a.feature) (Some a.values))
+      ∙ get-set_other attr_order attr (e, a.feature) (Some a.values) (x, g) (keys_apart x e g a.feature differ)
 
   -- ---- those of all rows
-  module _ (names : List IdBytes) (rows : List DocRow) (fit : DocumentFits meta rows) (as_many : length names ≡ length rows) (differ : laws.ids_differ names ≡ true)
+  module _ (names : List IdBytes) (rows : List DocRow) (fit : DocumentFits meta rows) (as_many : length names ≡ length rows)
+      (differ : laws.ids_differ names ≡ true)
       (kinds : (i : ℕ) (r : DocRow) → slice_get rows i ≡ Some r → get s.kind (name_at names i) ≡ Some r.class) where
-    pub values_lead : (rest : List DocRow) (n : ℕ) (attr : Attrs) → drop n rows ≡ rest → ((i f : ℕ) → n ≤ i → i < length names → get attr (name_at names i, f) ≡ None)
+    pub values_lead : (rest : List DocRow) (n : ℕ) (attr : Attrs) → drop n rows ≡ rest
+        → ((i f : ℕ) → n ≤ i → i < length names → get attr (name_at names i, f) ≡ None)
         → fold meta (valued attr) (values_from meta names n rest) ≡ Some (valued (attrs_from names n attr rest))
     values_lead [] n attr left free = refl
     values_lead (r ∷ rest) n attr left free =

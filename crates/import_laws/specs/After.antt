@@ -50,7 +50,8 @@ ranks_after xs (Inside a f) e k prank = set prank e (Some (rank_of k))
 abbrev pub ranks_from : List IdBytes → List DocRow → ℕ → List Entry → Ranks → List DocRow → Ranks
 ranks_from names rows n xs prank [] = prank
 ranks_from names rows n xs prank (r ∷ rest) =
-    ranks_from names rows (suc n) (roots_after xs (place_of names r.parent) (name_at names n)) (ranks_after xs (place_of names r.parent) (name_at names n) (standing r.parent (take n rows)) prank) rest
+    ranks_from names rows (suc n) (roots_after xs (place_of names r.parent) (name_at names n))
+    (ranks_after xs (place_of names r.parent) (name_at names n) (standing r.parent (take n rows)) prank) rest
 
 -- an element has these values
 abbrev pub attrs_set : IdBytes → Attrs → List DocAttr → Attrs

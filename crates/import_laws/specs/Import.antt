@@ -42,7 +42,9 @@ import_of meta m names rows = if any_in_use m rows then Err IdInUse else of_step
 -- the answer is what is recorded of the document with the ids that its elements get, or out of memory, or why it is refused
 abbrev pub Imports : Meta → State → ℕ → List DocRow → Result (Option Operation) EditFault → Type 0
 Imports meta m ws rows (Ok operation) = (names : List IdBytes) × AreNames m rows ws 1 rows names × (import_of meta m names rows ≡ Ok operation)
-Imports meta m ws rows (Err fault) = (fault ≡ Memory) ⊎ ((any_in_use m rows ≡ true) × (fault ≡ IdInUse)) ⊎ ((names : List IdBytes) × AreNames m rows ws 1 rows names × (import_of meta m names rows ≡ Err fault))
+Imports meta m ws rows (Err fault) =
+    (fault ≡ Memory) ⊎ ((any_in_use m rows ≡ true) × (fault ≡ IdInUse))
+    ⊎ ((names : List IdBytes) × AreNames m rows ws 1 rows names × (import_of meta m names rows ≡ Err fault))
 
 -- what is recorded of a document in a workspace of that number, or why it is refused
 abbrev pub recorded_import : Meta → State → ℕ → List DocRow → Result (Option Operation) EditFault

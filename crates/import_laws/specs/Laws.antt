@@ -23,7 +23,8 @@ ids_differ (x ∷ xs) = not (list_any (text_eq x) xs) && ids_differ xs
 
 -- as many ids as elements, none of them live and no two the same, where the document gives none that is live and none twice
 abbrev pub NamesAreNew : Type 0
-NamesAreNew = (m : State) (rows : List DocRow) (ws : ℕ) (names : List IdBytes) → AreNames m rows ws 1 rows names → any_in_use m rows ≡ false → ids_repeat rows ≡ false
+NamesAreNew = (m : State) (rows : List DocRow) (ws : ℕ) (names : List IdBytes) → AreNames m rows ws 1 rows names → any_in_use m rows ≡ false
+    → ids_repeat rows ≡ false
     → (length names ≡ length rows) × (list_any (is_live m) names ≡ false) × (ids_differ names ≡ true)
 
 -- The steps of what is recorded can be taken one by one, and leave the model with the document's elements, a good one. Nothing is
@@ -35,5 +36,6 @@ pub record LeadsIn (meta : Meta) (m : State) (names : List IdBytes) (rows : List
 
 -- so it is with each import of a document that fits
 abbrev pub ImportsLead : Type 0
-ImportsLead = (meta : Meta) → Sound meta → (m : State) → Good meta m → (ws : ℕ) (rows : List DocRow) → DocumentFits meta rows → (names : List IdBytes) → AreNames m rows ws 1 rows names
+ImportsLead = (meta : Meta) → Sound meta → (m : State) → Good meta m → (ws : ℕ) (rows : List DocRow) → DocumentFits meta rows → (names : List IdBytes)
+    → AreNames m rows ws 1 rows names
     → (operation : Option Operation) → import_of meta m names rows ≡ Ok operation → LeadsIn meta m names rows operation

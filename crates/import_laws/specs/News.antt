@@ -49,7 +49,8 @@ abbrev pub news_from : List IdBytes → List DocRow → List Step → ℕ → Li
 news_from names rows steps n xs [] = Ok steps
 news_from names rows steps n xs (r ∷ rest) =
     if has_room xs (place_of names r.parent)
-    then news_from names rows (steps ++ element_made xs (place_of names r.parent) (name_at names n) r.class (standing r.parent (take n rows))) (suc n) (roots_after xs (place_of names r.parent) (name_at names n)) rest
+    then news_from names rows (steps ++ element_made xs (place_of names r.parent) (name_at names n) r.class (standing r.parent (take n rows))) (suc n)
+    (roots_after xs (place_of names r.parent) (name_at names n)) rest
     else Err Bound
 
 -- the steps of all rows

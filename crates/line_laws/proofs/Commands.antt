@@ -2,9 +2,13 @@
 use Rattle.std.proofs.Common.{arith}
 use Rattle.script_lang.specs.declared.command.Command.TheVariants as commands
 use Rattle.edits.specs.declared.edit.Edit.TheVariants.{Create, Delete, Set, Unset, Add, Remove, Shift, Link, Unlink, Reorder, Move}
-use Rattle.script_lang.specs.Command.{init_at, evolve_at, import_at, load_at, checkout_at, create_at, delete_at, move_at, set_at, unset_at, add_at, remove_at, shift_at, link_at, unlink_at, reorder_at, begin_at, end_line_at, undo_at, discard_at, tidy_at, apply_at, changes_at, show_at, cat_at, validate_at, commit_at, signed_at, branch_at, tag_at, log_at, package_at, update_at, merge_at, revert_at, drop_at, upgrade_at}
+use Rattle.script_lang.specs.Command.{init_at, evolve_at, import_at, load_at, checkout_at, create_at, delete_at, move_at, set_at, unset_at, add_at}
+use Rattle.script_lang.specs.Command.{remove_at, shift_at, link_at, unlink_at, reorder_at, begin_at, end_line_at, undo_at, discard_at, tidy_at}
+use Rattle.script_lang.specs.Command.{apply_at, changes_at, show_at, cat_at, validate_at, commit_at, signed_at, branch_at, tag_at, log_at, package_at}
+use Rattle.script_lang.specs.Command.{update_at, merge_at, revert_at, drop_at, upgrade_at}
 use Rattle.line_laws.proofs.Faults.{Exact}
-use Rattle.line_laws.proofs.Fields.{word_then, number_then, moment_then, name_then, index_or_end_then, spec_then, bytes_then, destination_then, optional_then, optional_number_then, rest_last, optional_rest_last, end_last}
+use Rattle.line_laws.proofs.Fields.{word_then, number_then, moment_then, name_then, index_or_end_then, spec_then, bytes_then, destination_then}
+use Rattle.line_laws.proofs.Fields.{optional_then, optional_number_then, rest_last, optional_rest_last, end_last}
 
 pub init_exact : Exact init_at
 unfolding init_at

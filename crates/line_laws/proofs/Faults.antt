@@ -1,5 +1,6 @@
 -- Readings whose every fault is at the first word that does not fit.
-use Rattle.std.proofs.Common.{◌≡◌, ℕ, zero, suc, ◌+◌, ◌-◌, ◌≤◌, List, [], ◌∷◌, ◌++◌, length, length-append, refl, sym, ap, subst, ◌∙◌, true, false, Bool, cond, Option, None, Some, Result, Ok, Err, arith, nat_eq, nat_lt}
+use Rattle.std.proofs.Common.{◌≡◌, ℕ, zero, suc, ◌+◌, ◌-◌, ◌≤◌, List, [], ◌∷◌, ◌++◌, length, length-append, refl, sym, ap, subst, ◌∙◌, true, false}
+use Rattle.std.proofs.Common.{Bool, cond, Option, None, Some, Result, Ok, Err, arith, nat_eq, nat_lt}
 use Rattle.std.specs.List.{before_first, after_first}
 use Rattle.std.proofs.lemmas.List.{append-nil}
 use Rattle.script_lang.specs.declared.command.Command.{Command}
@@ -7,7 +8,8 @@ use Rattle.script_lang.specs.Left.{Left}
 use Rattle.script_lang.specs.Words.{◌>>=◌, is_space, word_of, word_at, found_at}
 use Rattle.script_lang.specs.Spelling.{IsLine, IsWord}
 use Rattle.script_lang.proofs.WordLemmas.{behind, word_first, word_last, word_back}
-use Rattle.line_laws.proofs.Bytes.{bytes_left, Through, past_byte, past_word, whole, behind_byte, behind_word, through_last, through_space, line_joined, line_parts}
+use Rattle.line_laws.proofs.Bytes.{bytes_left, Through, past_byte, past_word, whole, behind_byte, behind_word, through_last, through_space}
+use Rattle.line_laws.proofs.Bytes.{line_joined, line_parts}
 
 abbrev pub left_at : Option (List ℕ) → ℕ → Left
 left_at rest column = record { rest = rest; column = column }

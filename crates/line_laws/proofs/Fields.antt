@@ -1,5 +1,6 @@
 -- Each kind of word of a command's line: reading it, and then what stands after it, is exact where what stands after it is.
-use Rattle.std.proofs.Common.{◌≡◌, ℕ, ◌-◌, ◌≤◌, ◌^◌, List, [], ◌∷◌, length, refl, sym, ap, subst, ◌∙◌, true, false, Bool, cond, Option, None, Some, Result, Ok, Err, arith, codes}
+use Rattle.std.proofs.Common.{◌≡◌, ℕ, ◌-◌, ◌≤◌, ◌^◌, List, [], ◌∷◌, length, refl, sym, ap, subst, ◌∙◌, true, false, Bool, cond, Option, None, Some}
+use Rattle.std.proofs.Common.{Result, Ok, Err, arith, codes}
 use Rattle.std.proofs.lemmas.Bool.{le-leb}
 use Rattle.edits.specs.declared.edit.Destination.{Destination}
 use Rattle.edits.specs.declared.edit.Destination.TheVariants.{Root, Inside}
@@ -9,7 +10,8 @@ use Rattle.script_lang.specs.declared.command.Spec.{Spec}
 use Rattle.script_lang.specs.declared.command.Spec.TheVariants.{Number}
 use Rattle.script_lang.specs.declared.command.Command.{Command}
 use Rattle.script_lang.specs.Left.{Left}
-use Rattle.script_lang.specs.Words.{◌>>=◌, is_word, word_at, found_at, number_of, number_below, not_below, number_at, moment_at, name_at, index_or_end, index_or_end_at, optional_at, optional_number_at, rest_at, optional_rest_at, end_at}
+use Rattle.script_lang.specs.Words.{◌>>=◌, is_word, word_at, found_at, number_of, number_below, not_below, number_at, moment_at, name_at}
+use Rattle.script_lang.specs.Words.{index_or_end, index_or_end_at, optional_at, optional_number_at, rest_at, optional_rest_at, end_at}
 use Rattle.script_lang.specs.Command.{spec_of, spec_at, if_decoded, bytes_at, destination_from, destination_at}
 use Rattle.script_lang.specs.Spelling.{IsLine, IsWord}
 use Rattle.line_laws.proofs.Faults.{left_at, Fault, FaultIn, Exact, named_exact}

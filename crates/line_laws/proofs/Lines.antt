@@ -1,16 +1,25 @@
 -- The columns of lines that are no commands.
-use Rattle.std.proofs.Common.{◌≡◌, ℕ, ◌+◌, ◌-◌, ◌<◌, ◌≤◌, List, [], ◌∷◌, length, refl, sym, ap, subst, ◌∙◌, true, false, Bool, cond, Option, None, Some, Result, Ok, Err, arith, codes}
+use Rattle.std.proofs.Common.{◌≡◌, ℕ, ◌+◌, ◌-◌, ◌<◌, ◌≤◌, List, [], ◌∷◌, length, refl, sym, ap, subst, ◌∙◌, true, false, Bool, cond, Option, None}
+use Rattle.std.proofs.Common.{Some, Result, Ok, Err, arith, codes}
 use Rattle.std.specs.Prelude.{map}
 use Rattle.script_lang.specs.declared.command.Command.{Command}
 use Rattle.script_lang.specs.Left.{Left}
 use Rattle.script_lang.specs.Words.{◌>>=◌, is_word, word_at, found_at}
-use Rattle.script_lang.specs.Command.{init_at, evolve_at, import_at, load_at, checkout_at, create_at, delete_at, move_at, set_at, unset_at, add_at, remove_at, shift_at, link_at, unlink_at, reorder_at, begin_at, end_line_at, undo_at, discard_at, tidy_at, apply_at, changes_at, show_at, cat_at, validate_at, commit_at, signed_at, branch_at, tag_at, log_at, package_at, update_at, merge_at, revert_at, drop_at, upgrade_at, chosen, commands_by_word, feature_commands, work_commands, version_commands, command_of}
+use Rattle.script_lang.specs.Command.{init_at, evolve_at, import_at, load_at, checkout_at, create_at, delete_at, move_at, set_at, unset_at, add_at}
+use Rattle.script_lang.specs.Command.{remove_at, shift_at, link_at, unlink_at, reorder_at, begin_at, end_line_at, undo_at, discard_at, tidy_at}
+use Rattle.script_lang.specs.Command.{apply_at, changes_at, show_at, cat_at, validate_at, commit_at, signed_at, branch_at, tag_at, log_at, package_at}
+use Rattle.script_lang.specs.Command.{update_at, merge_at, revert_at, drop_at, upgrade_at, chosen, commands_by_word, feature_commands, work_commands}
+use Rattle.script_lang.specs.Command.{version_commands, command_of}
 use Rattle.script_lang.specs.Spelling.{IsLine, Spells}
 use Rattle.script_lang.proofs.LineLemmas.{line_read, line_spelled}
 use Rattle.line_laws.specs.Columns.{HasWordsBefore, IsSameThrough, FitsUpTo, ColumnsAreFirst, SameLinesAreRefusedAlike}
 use Rattle.line_laws.proofs.Bytes.{bytes_left, Through, earlier}
 use Rattle.line_laws.proofs.Faults.{left_at, ThroughLeft, Fitting, Fault, Exact, named_exact}
-use Rattle.line_laws.proofs.Commands.{init_exact, evolve_exact, import_exact, load_exact, checkout_exact, create_exact, delete_exact, move_exact, set_exact, unset_exact, add_exact, remove_exact, shift_exact, link_exact, unlink_exact, reorder_exact, begin_exact, end_line_exact, undo_exact, discard_exact, tidy_exact, apply_exact, changes_exact, show_exact, cat_exact, validate_exact, commit_exact, signed_exact, branch_exact, tag_exact, log_exact, package_exact, update_exact, merge_exact, revert_exact, drop_exact, upgrade_exact}
+use Rattle.line_laws.proofs.Commands.{init_exact, evolve_exact, import_exact, load_exact, checkout_exact, create_exact, delete_exact, move_exact}
+use Rattle.line_laws.proofs.Commands.{set_exact, unset_exact, add_exact, remove_exact, shift_exact, link_exact, unlink_exact, reorder_exact}
+use Rattle.line_laws.proofs.Commands.{begin_exact, end_line_exact, undo_exact, discard_exact, tidy_exact, apply_exact, changes_exact, show_exact}
+use Rattle.line_laws.proofs.Commands.{cat_exact, validate_exact, commit_exact, signed_exact, branch_exact, tag_exact, log_exact, package_exact}
+use Rattle.line_laws.proofs.Commands.{update_exact, merge_exact, revert_exact, drop_exact, upgrade_exact}
 
 -- a word, and how what stands after it is read: exactly
 record Row : Type 0 where

@@ -1,5 +1,6 @@
 -- What the sides drop, one bucket more.
-use Rattle.std.proofs.Common.{◌≡◌, ℕ, suc, ◌+◌, ◌<◌, ◌≤◌, zero, Bool, true, false, ◌||◌, List, [], ◌∷◌, refl, sym, ap, ◌∙◌, drop, length, get_or, arith, drop-cons}
+use Rattle.std.proofs.Common.{◌≡◌, ℕ, suc, ◌+◌, ◌<◌, ◌≤◌, zero, Bool, true, false, ◌||◌, List, [], ◌∷◌, refl, sym, ap, ◌∙◌, drop, length, get_or}
+use Rattle.std.proofs.Common.{arith, drop-cons}
 use Rattle.std.proofs.Math.Bool.{or_assoc}
 use Rattle.footprint.specs.declared.bucket.Bucket.{Bucket}
 use Rattle.merge_laws.specs.declared.side.Side.{Side}
@@ -32,7 +33,8 @@ pub record FlagsSoFar (flags : List Bool) (size : ℕ) (rest whole : ℕ → Boo
   pub with_rest : (i : ℕ) → i < size → is_flagged flags i || rest i ≡ whole i
 
 -- one bucket more
-more : (old new : List Bool) (size : ℕ) (here rest later whole : ℕ → Bool) → FlagsSoFar old size rest whole → Flagged old new here → ((i : ℕ) → rest i ≡ here i || later i) → FlagsSoFar new size later whole
+more : (old new : List Bool) (size : ℕ) (here rest later whole : ℕ → Bool) → FlagsSoFar old size rest whole → Flagged old new here
+    → ((i : ℕ) → rest i ≡ here i || later i) → FlagsSoFar new size later whole
 more old new size here rest later whole so_far set next = record {
   size_is = set.size ∙ so_far.size_is;
   with_rest = λ i low.
@@ -42,7 +44,8 @@ more old new size here rest later whole so_far set next = record {
       ∙ so_far.with_rest i low;
 }
 
-module _ (bs : List Bucket) (ls : List Side) (k : ℕ) (b : Bucket) (l : Side) (low : k < length bs) (low_sides : k < length ls) (b_is : b ≡ get_or bs k b) (l_is : l ≡ get_or ls k l) where
+module _ (bs : List Bucket) (ls : List Side) (k : ℕ) (b : Bucket) (l : Side) (low : k < length bs) (low_sides : k < length ls)
+    (b_is : b ≡ get_or bs k b) (l_is : l ≡ get_or ls k l) where
   theirs_next : (i : ℕ) → drops_theirs (drop k bs) (drop k ls) i ≡ bucket_theirs b l i || drops_theirs (drop (k + 1) bs) (drop (k + 1) ls) i
   theirs_next i = (λ t. drops_theirs (at_place bs k b low b_is t) (at_place ls k l low_sides l_is t) i) ∙ by l
     where
@@ -57,20 +60,28 @@ module _ (bs : List Bucket) (ls : List Side) (k : ℕ) (b : Bucket) (l : Side) (
       by Mine = refl
       by Theirs = refl
 
-  pub theirs_more : (old new : List Bool) (size : ℕ) → FlagsSoFar old size (drops_theirs (drop k bs) (drop k ls)) (drops_theirs bs ls) → Flagged old new (bucket_theirs b l) → FlagsSoFar new size (drops_theirs (drop (k + 1) bs) (drop (k + 1) ls)) (drops_theirs bs ls)
-  theirs_more old new size so_far set = more old new size (bucket_theirs b l) (drops_theirs (drop k bs) (drop k ls)) (drops_theirs (drop (k + 1) bs) (drop (k + 1) ls)) (drops_theirs bs ls) so_far set theirs_next
+  pub theirs_more : (old new : List Bool) (size : ℕ) → FlagsSoFar old size (drops_theirs (drop k bs) (drop k ls)) (drops_theirs bs ls)
+      → Flagged old new (bucket_theirs b l) → FlagsSoFar new size (drops_theirs (drop (k + 1) bs) (drop (k + 1) ls)) (drops_theirs bs ls)
+  theirs_more old new size so_far set =
+      more old new size (bucket_theirs b l) (drops_theirs (drop k bs) (drop k ls)) (drops_theirs (drop (k + 1) bs) (drop (k + 1) ls))
+      (drops_theirs bs ls) so_far set theirs_next
 
-  pub mine_more : (old new : List Bool) (size : ℕ) → FlagsSoFar old size (drops_mine (drop k bs) (drop k ls)) (drops_mine bs ls) → Flagged old new (bucket_mine b l) → FlagsSoFar new size (drops_mine (drop (k + 1) bs) (drop (k + 1) ls)) (drops_mine bs ls)
-  mine_more old new size so_far set = more old new size (bucket_mine b l) (drops_mine (drop k bs) (drop k ls)) (drops_mine (drop (k + 1) bs) (drop (k + 1) ls)) (drops_mine bs ls) so_far set mine_next
+  pub mine_more : (old new : List Bool) (size : ℕ) → FlagsSoFar old size (drops_mine (drop k bs) (drop k ls)) (drops_mine bs ls)
+      → Flagged old new (bucket_mine b l) → FlagsSoFar new size (drops_mine (drop (k + 1) bs) (drop (k + 1) ls)) (drops_mine bs ls)
+  mine_more old new size so_far set =
+      more old new size (bucket_mine b l) (drops_mine (drop k bs) (drop k ls)) (drops_mine (drop (k + 1) bs) (drop (k + 1) ls))
+      (drops_mine bs ls) so_far set mine_next
 
 -- none is left
-pub theirs_end : (bs : List Bucket) (ls : List Side) (k : ℕ) (flags : List Bool) (size : ℕ) → length bs ≤ k → FlagsSoFar flags size (drops_theirs (drop k bs) (drop k ls)) (drops_theirs bs ls) → AreFlags flags size (drops_theirs bs ls)
+pub theirs_end : (bs : List Bucket) (ls : List Side) (k : ℕ) (flags : List Bool) (size : ℕ) → length bs ≤ k
+    → FlagsSoFar flags size (drops_theirs (drop k bs) (drop k ls)) (drops_theirs bs ls) → AreFlags flags size (drops_theirs bs ls)
 theirs_end bs ls k flags size high so_far = record {
   size = so_far.size_is;
   flags = λ i low. sym (ap (λ l. is_flagged flags i || drops_theirs l (drop k ls) i) (past bs k high) ∙ or_none (is_flagged flags i)) ∙ so_far.with_rest i low;
 }
 
-pub mine_end : (bs : List Bucket) (ls : List Side) (k : ℕ) (flags : List Bool) (size : ℕ) → length bs ≤ k → FlagsSoFar flags size (drops_mine (drop k bs) (drop k ls)) (drops_mine bs ls) → AreFlags flags size (drops_mine bs ls)
+pub mine_end : (bs : List Bucket) (ls : List Side) (k : ℕ) (flags : List Bool) (size : ℕ) → length bs ≤ k
+    → FlagsSoFar flags size (drops_mine (drop k bs) (drop k ls)) (drops_mine bs ls) → AreFlags flags size (drops_mine bs ls)
 mine_end bs ls k flags size high so_far = record {
   size = so_far.size_is;
   flags = λ i low. sym (ap (λ l. is_flagged flags i || drops_mine l (drop k ls) i) (past bs k high) ∙ or_none (is_flagged flags i)) ∙ so_far.with_rest i low;

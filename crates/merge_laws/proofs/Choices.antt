@@ -29,7 +29,8 @@ suc_same : (a b : ℕ) → suc a ≡ suc b → a ≡ b
 suc_same a b h = cc
 
 -- of a pair in one bucket, one is dropped
-one_dropped : (bs : List Bucket) (sides : List Side) (i k : ℕ) → length sides ≡ length bs → shares bs i k ≡ true → drops_theirs bs sides i ≡ false → drops_mine bs sides k ≡ false → ⊥
+one_dropped : (bs : List Bucket) (sides : List Side) (i k : ℕ) → length sides ≡ length bs → shares bs i k ≡ true → drops_theirs bs sides i ≡ false
+    → drops_mine bs sides k ≡ false → ⊥
 one_dropped [] sides i k is both h g = true_false false both refl
 one_dropped (b ∷ bs) [] i k is both h g = cc
 one_dropped (b ∷ bs) (Mine ∷ sides) i k is both h g =
@@ -41,7 +42,8 @@ one_dropped (b ∷ bs) (Theirs ∷ sides) i k is both h g =
     (λ here. true_false _ (and_second (is_in i b.theirs) (is_in k b.mine) here) (or_first (is_in k b.mine) (drops_mine bs sides k) g))
     (λ later. one_dropped bs sides i k (suc_same (length sides) (length bs) is) later h (or_second (is_in k b.mine) (drops_mine bs sides k) g))
 
-module _ (meta : Meta) (theirs mine : List Operation) (bs : List Bucket) (parts : Parts meta theirs mine bs) (sides : List Side) (is : length sides ≡ length bs) where
+module _ (meta : Meta) (theirs mine : List Operation) (bs : List Bucket) (parts : Parts meta theirs mine bs) (sides : List Side)
+    (is : length sides ≡ length bs) where
   pub theirs_apart : NoPair meta (kept (drops_theirs bs sides) theirs) (dropped (drops_theirs bs sides) theirs)
   theirs_apart = kept_dropped meta (drops_theirs bs sides) (drops_theirs bs sides) theirs theirs (λ i k a b at there h g.
       not_so (interferes meta a b) (λ meet. true_false _ g (sym (same_theirs bs sides i k (parts.among_theirs i k a b at there meet)) ∙ h)))

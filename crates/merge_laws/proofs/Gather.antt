@@ -25,7 +25,8 @@ pair_rest meta [] q qs h = tt
 pair_rest meta (p ∷ ps) q qs h = (h.0.1, pair_rest meta ps q qs h.1)
 
 -- ---- the rearrangement
-pub gather : (meta : Meta) → Sound meta → (p : ℕ → Bool) (os : List Operation) (m n : State) → Good meta m → NoPair meta (kept p os) (dropped p os) → Leads meta m os n → Leads meta m (kept p os ++ dropped p os) n
+pub gather : (meta : Meta) → Sound meta → (p : ℕ → Bool) (os : List Operation) (m n : State) → Good meta m → NoPair meta (kept p os) (dropped p os)
+    → Leads meta m os n → Leads meta m (kept p os ++ dropped p os) n
 gather meta sound p [] m n good none h = h
 gather meta sound p (o ∷ os) m n good none h =
     let later : ℕ → Bool = λ i. p (suc i) in
@@ -38,7 +39,8 @@ gather meta sound p (o ∷ os) m n good none h =
       | false ↦ λ apart. join meta m x.0 n (o ∷ []) (k ++ d) x.1 (on apart.1)
       | true ↦ λ apart.
           let y = cut meta x.0 n k d (on (pair_rest meta k o d apart)) in
-          let turned = packages_exchange meta sound (o ∷ []) k m y.0 good (free_of_each meta o k (pair_first meta k o d apart), tt) (join meta m x.0 y.0 (o ∷ []) k x.1 y.1) in
+          let turned = packages_exchange meta sound (o ∷ []) k m y.0 good (free_of_each meta o k (pair_first meta k o d apart), tt)
+          (join meta m x.0 y.0 (o ∷ []) k x.1 y.1) in
           subst (λ l. Leads meta m l n) (append_assoc k (o ∷ []) d) (join meta m y.0 n (k ++ (o ∷ [])) d turned y.2)
     ] none
 
@@ -65,7 +67,8 @@ free_kept meta o q (b ∷ ps) says =
     ] refl
 
 -- each operation at a place that the test fails is free of the list
-kept_pairs : (meta : Meta) (p : ℕ → Bool) (os qs : List Operation) → ((i : ℕ) (a : Operation) → slice_get os i ≡ Some a → p i ≡ false → Free meta a qs) → NoPair meta (kept p os) qs
+kept_pairs : (meta : Meta) (p : ℕ → Bool) (os qs : List Operation)
+    → ((i : ℕ) (a : Operation) → slice_get os i ≡ Some a → p i ≡ false → Free meta a qs) → NoPair meta (kept p os) qs
 kept_pairs meta p [] qs free = tt
 kept_pairs meta p (o ∷ os) qs free =
     let rest = kept_pairs meta (λ i. p (suc i)) os qs (λ i a at is. free (suc i) a at is) in
@@ -74,8 +77,12 @@ kept_pairs meta p (o ∷ os) qs free =
       | false ↦ λ is. (free 0 o refl is, rest)
     ] refl
 
-pub kept_dropped : (meta : Meta) (p q : ℕ → Bool) (os ps : List Operation) → ((i k : ℕ) (a b : Operation) → slice_get os i ≡ Some a → slice_get ps k ≡ Some b → p i ≡ false → q k ≡ true → interferes meta a b ≡ false) → NoPair meta (kept p os) (dropped q ps)
+pub kept_dropped : (meta : Meta) (p q : ℕ → Bool) (os ps : List Operation)
+    → ((i k : ℕ) (a b : Operation) → slice_get os i ≡ Some a → slice_get ps k ≡ Some b → p i ≡ false → q k ≡ true → interferes meta a b ≡ false)
+    → NoPair meta (kept p os) (dropped q ps)
 kept_dropped meta p q os ps says = kept_pairs meta p os (dropped q ps) (λ i a at is. free_dropped meta a q ps (λ k b there on. says i k a b at there is on))
 
-pub kept_kept : (meta : Meta) (p q : ℕ → Bool) (os ps : List Operation) → ((i k : ℕ) (a b : Operation) → slice_get os i ≡ Some a → slice_get ps k ≡ Some b → p i ≡ false → q k ≡ false → interferes meta a b ≡ false) → NoPair meta (kept p os) (kept q ps)
+pub kept_kept : (meta : Meta) (p q : ℕ → Bool) (os ps : List Operation)
+    → ((i k : ℕ) (a b : Operation) → slice_get os i ≡ Some a → slice_get ps k ≡ Some b → p i ≡ false → q k ≡ false → interferes meta a b ≡ false)
+    → NoPair meta (kept p os) (kept q ps)
 kept_kept meta p q os ps says = kept_pairs meta p os (kept q ps) (λ i a at is. free_kept meta a q ps (λ k b there on. says i k a b at there is on))

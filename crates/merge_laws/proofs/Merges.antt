@@ -19,7 +19,9 @@ use Rattle.tidy_laws.proofs.Whole.{tidy_keeps_effect}
 use Rattle.merge_laws.proofs.Gather.{gather}
 use Rattle.merge_laws.proofs.Choices.{theirs_apart, mine_apart, kept_apart}
 
-module _ (meta : Meta) (sound : Sound meta) (base head work : State) (good : Good meta base) (theirs mine : List Operation) (after_theirs : Leads meta base theirs head) (after_mine : Leads meta base mine work) (bs : List Bucket) (parts : Parts meta theirs mine bs) (sides : List Side) (is : length sides ≡ length bs) where
+module _ (meta : Meta) (sound : Sound meta) (base head work : State) (good : Good meta base) (theirs mine : List Operation)
+    (after_theirs : Leads meta base theirs head) (after_mine : Leads meta base mine work) (bs : List Bucket) (parts : Parts meta theirs mine bs)
+    (sides : List Side) (is : length sides ≡ length bs) where
   keep_t : List Operation
   keep_t = kept (drops_theirs bs sides) theirs
 
@@ -35,11 +37,13 @@ module _ (meta : Meta) (sound : Sound meta) (base head work : State) (good : Goo
   -- what is kept of theirs leads to a state, from which what is dropped leads to the head
   kept_theirs_lead : (k : State) × Leads meta base keep_t k × Leads meta k drop_t head
   unfolding keep_t drop_t
-  kept_theirs_lead = cut meta base head keep_t drop_t (gather meta sound (drops_theirs bs sides) theirs base head good (theirs_apart meta theirs mine bs parts sides is) after_theirs)
+  kept_theirs_lead = cut meta base head keep_t drop_t
+      (gather meta sound (drops_theirs bs sides) theirs base head good (theirs_apart meta theirs mine bs parts sides is) after_theirs)
 
   kept_mine_lead : (k : State) × Leads meta base keep_m k × Leads meta k drop_m work
   unfolding keep_m drop_m
-  kept_mine_lead = cut meta base work keep_m drop_m (gather meta sound (drops_mine bs sides) mine base work good (mine_apart meta theirs mine bs parts sides is) after_mine)
+  kept_mine_lead = cut meta base work keep_m drop_m
+      (gather meta sound (drops_mine bs sides) mine base work good (mine_apart meta theirs mine bs parts sides is) after_mine)
 
   -- from there both sides lead to one state
   both_lead : (n : State) × Leads meta base (keep_t ++ keep_m) n × Leads meta kept_theirs_lead.0 keep_m n × Leads meta kept_mine_lead.0 keep_t n
@@ -97,5 +101,6 @@ mine_leads meta sound common met base work good taken since local is_met is_base
 
 pub merge_leads_to_merged : MergeLeadsToMerged
 merge_leads_to_merged meta sound common met base head work good taken since local theirs is_met is_base is_work is_head sides is =
-    merge_gives_merged meta sound met head work (packages_keep meta sound common met good taken is_met) theirs (tidy meta (rev_package taken ++ (since ++ local))) is_head
+    merge_gives_merged meta sound met head work (packages_keep meta sound common met good taken is_met) theirs
+    (tidy meta (rev_package taken ++ (since ++ local))) is_head
     (mine_leads meta sound common met base work good taken since local is_met is_base is_work) sides is

@@ -13,15 +13,19 @@ use Rattle.merge_laws.specs.Merge.{merged, update_list, merge_list}
 
 -- the update's list leads from the state after theirs to the merged model
 abbrev pub UpdateGivesMerged : Type 0
-UpdateGivesMerged = (meta : Meta) → Sound meta → (base head work : State) → Good meta base → (theirs mine : List Operation) → fold_package meta base theirs ≡ Some head → fold_package meta base mine ≡ Some work
+UpdateGivesMerged = (meta : Meta) → Sound meta → (base head work : State) → Good meta base → (theirs mine : List Operation)
+    → fold_package meta base theirs ≡ Some head → fold_package meta base mine ≡ Some work
     → (sides : List Side) → length sides ≡ length (buckets meta theirs mine)
-    → (n : State) × (fold_package meta head (update_list theirs mine (buckets meta theirs mine) sides) ≡ Some n) × (merged meta base theirs mine (buckets meta theirs mine) sides ≡ Some n)
+    → (n : State) × (fold_package meta head (update_list theirs mine (buckets meta theirs mine) sides) ≡ Some n)
+    × (merged meta base theirs mine (buckets meta theirs mine) sides ≡ Some n)
 
 -- the merge's list leads from the state after mine to the merged model
 abbrev pub MergeGivesMerged : Type 0
-MergeGivesMerged = (meta : Meta) → Sound meta → (base head work : State) → Good meta base → (theirs mine : List Operation) → fold_package meta base theirs ≡ Some head → fold_package meta base mine ≡ Some work
+MergeGivesMerged = (meta : Meta) → Sound meta → (base head work : State) → Good meta base → (theirs mine : List Operation)
+    → fold_package meta base theirs ≡ Some head → fold_package meta base mine ≡ Some work
     → (sides : List Side) → length sides ≡ length (buckets meta theirs mine)
-    → (n : State) × (fold_package meta work (merge_list theirs mine (buckets meta theirs mine) sides) ≡ Some n) × (merged meta base theirs mine (buckets meta theirs mine) sides ≡ Some n)
+    → (n : State) × (fold_package meta work (merge_list theirs mine (buckets meta theirs mine) sides) ≡ Some n)
+    × (merged meta base theirs mine (buckets meta theirs mine) sides ≡ Some n)
 
 -- where nothing later interferes with a package, its reversal at the end leads to what the others lead to without it
 abbrev pub RevertTakesOut : Type 0
@@ -40,6 +44,8 @@ MineLeads = (meta : Meta) → Sound meta → (common met base work : State) → 
 -- the merged one.
 abbrev pub MergeLeadsToMerged : Type 0
 MergeLeadsToMerged = (meta : Meta) → Sound meta → (common met base head work : State) → Good meta common → (taken since local theirs : List Operation)
-    → fold_package meta common taken ≡ Some met → fold_package meta common since ≡ Some base → fold_package meta base local ≡ Some work → fold_package meta met theirs ≡ Some head
+    → fold_package meta common taken ≡ Some met → fold_package meta common since ≡ Some base → fold_package meta base local ≡ Some work
+    → fold_package meta met theirs ≡ Some head
     → let mine = tidy meta (rev_package taken ++ (since ++ local)) in (sides : List Side) → length sides ≡ length (buckets meta theirs mine)
-    → (n : State) × (fold_package meta work (merge_list theirs mine (buckets meta theirs mine) sides) ≡ Some n) × (merged meta met theirs mine (buckets meta theirs mine) sides ≡ Some n)
+    → (n : State) × (fold_package meta work (merge_list theirs mine (buckets meta theirs mine) sides) ≡ Some n)
+    × (merged meta met theirs mine (buckets meta theirs mine) sides ≡ Some n)

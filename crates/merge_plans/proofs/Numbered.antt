@@ -1,5 +1,6 @@
 -- The places in buckets are places of operations.
-use Rattle.std.proofs.Common.{◌≡◌, ◌≤◌, ◌<◌, ℕ, zero, suc, ◌+◌, ◌-◌, ◌^◌, nat_eq, Bool, true, false, cond, List, [], ◌∷◌, ◌++◌, map, length, take, drop, ◌∙◌, arith, length-append}
+use Rattle.std.proofs.Common.{◌≡◌, ◌≤◌, ◌<◌, ℕ, zero, suc, ◌+◌, ◌-◌, ◌^◌, nat_eq, Bool, true, false, cond, List, [], ◌∷◌, ◌++◌, map, length, take}
+use Rattle.std.proofs.Common.{drop, ◌∙◌, arith, length-append}
 use Rattle.std.specs.Prelude.{All}
 use Rattle.std.specs.List.{AllByRecursion}
 use Rattle.std.proofs.lemmas.List.Elements.{All-from_recursion}
@@ -68,8 +69,13 @@ HaveNumbers b = All (λ i. i < 2 ^ 64 - 1) b.theirs × All (λ i. i < 2 ^ 64 - 1
 
 numbered_each : (n k : ℕ) (bs : List Bucket) → n ≤ 2 ^ 64 - 1 → k ≤ 2 ^ 64 - 1 → AllByRecursion (IsBelow n k) bs → AllByRecursion HaveNumbers bs
 numbered_each n k [] first second all = tt
-numbered_each n k (b ∷ bs) first second all =
-    ((All-from_recursion (λ i. i < 2 ^ 64 - 1) b.theirs (below_more n (2 ^ 64 - 1) b.theirs first all.0.0), All-from_recursion (λ i. i < 2 ^ 64 - 1) b.mine (below_more k (2 ^ 64 - 1) b.mine second all.0.1)), numbered_each n k bs first second all.1)
+numbered_each n k (b ∷ bs) first second all = (
+  (
+    All-from_recursion (λ i. i < 2 ^ 64 - 1) b.theirs (below_more n (2 ^ 64 - 1) b.theirs first all.0.0),
+    All-from_recursion (λ i. i < 2 ^ 64 - 1) b.mine (below_more k (2 ^ 64 - 1) b.mine second all.0.1),
+  ),
+  numbered_each n k bs first second all.1,
+)
 
 -- so do the places in the buckets of two packages whose lengths have 64 bits
 pub numbered : (meta : Meta) (theirs mine : List Operation) → length theirs < 2 ^ 64 → length mine < 2 ^ 64 → All HaveNumbers (buckets meta theirs mine)
@@ -80,4 +86,5 @@ numbered meta theirs mine first second =
     let all = rows_below (take n ls) (drop n ls) n in
     let size : length ls ≡ n + length mine = labels_length meta (theirs ++ mine) ∙ length-append theirs mine in
     All-from_recursion HaveNumbers (rows (take n ls) (drop n ls) n)
-    (numbered_each (length (take n ls)) (length (drop n ls)) (rows (take n ls) (drop n ls) n) (omega (arith, take_short n ls, first)) (omega (arith, drop_short n ls (length mine) size, second)) all)
+    (numbered_each (length (take n ls)) (length (drop n ls)) (rows (take n ls) (drop n ls) n) (omega (arith, take_short n ls, first))
+    (omega (arith, drop_short n ls (length mine) size, second)) all)

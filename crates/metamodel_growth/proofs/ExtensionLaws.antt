@@ -1,5 +1,6 @@
 -- A metamodel that extends another grows out of it once it has the other's numbers.
-use Rattle.std.proofs.Common.{◌≡◌, ℕ, zero, suc, ◌+◌, ◌<◌, ◌≤◌, Bool, true, false, cond, List, [], ◌∷◌, ◌++◌, ◌&&◌, refl, sym, ap, subst, ◌∙◌, arith, length, map, nat_eq, codes}
+use Rattle.std.proofs.Common.{◌≡◌, ℕ, zero, suc, ◌+◌, ◌<◌, ◌≤◌, Bool, true, false, cond, List, [], ◌∷◌, ◌++◌, ◌&&◌, refl, sym, ap, subst, ◌∙◌, arith}
+use Rattle.std.proofs.Common.{length, map, nat_eq, codes}
 use Rattle.std.specs.Prelude.{Option, None, Some, slice_get}
 use Rattle.std.specs.List.{list_all, list_any, range_with_len}
 use Rattle.std.specs.Option.{option_and_then, option_map, option_map_or}
@@ -29,7 +30,9 @@ use Rattle.ecore_meta.proofs.DeclaredLaws.{has_any, has_declared}
 use Rattle.ecore_meta.proofs.NameLaws.{same}
 use Rattle.ecore_meta.proofs.NumberLaws.{nat_same, or_split}
 use Rattle.metamodel_growth.specs.Evolved.{evolved, orders}
-use Rattle.metamodel_growth.specs.Extension.{begins, class_in, class_kept, class_name, class_same, declared_named, enum_in, enum_kept, enum_name, enum_same, feature_in, feature_kept, feature_same, first_lost, full_name, is_abstract, kind_same, missing, opposite_same, owner_name, parts_same, scalar_same}
+use Rattle.metamodel_growth.specs.Extension.{begins, class_in, class_kept, class_name, class_same, declared_named, enum_in, enum_kept, enum_name}
+use Rattle.metamodel_growth.specs.Extension.{enum_same, feature_in, feature_kept, feature_same, first_lost, full_name, is_abstract, kind_same}
+use Rattle.metamodel_growth.specs.Extension.{missing, opposite_same, owner_name, parts_same, scalar_same}
 use Rattle.metamodel_growth.specs.Preserves.{Preserves}
 use Rattle.metamodel_growth.specs.Order.{IsOrder, place_in}
 use Rattle.metamodel_growth.specs.Renumbered.{class_moved, feature_moved, kind_moved, scalar_moved}

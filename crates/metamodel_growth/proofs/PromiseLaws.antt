@@ -1,5 +1,6 @@
 -- A metamodel with other numbers keeps what holds of every metamodel.
-use Rattle.std.proofs.Common.{◌≡◌, ℕ, zero, suc, ◌<◌, Bool, true, false, cond, List, [], ◌∷◌, ◌&&◌, refl, sym, ap, subst, ◌∙◌, arith, length, map, nat_eq, nat_lt, codes}
+use Rattle.std.proofs.Common.{◌≡◌, ℕ, zero, suc, ◌<◌, Bool, true, false, cond, List, [], ◌∷◌, ◌&&◌, refl, sym, ap, subst, ◌∙◌, arith, length, map}
+use Rattle.std.proofs.Common.{nat_eq, nat_lt, codes}
 use Rattle.std.specs.Prelude.{Option, None, Some, slice_get}
 use Rattle.std.specs.List.{filter, list_any, range_with_len}
 use Rattle.std.specs.List.Sorted.{IsStrictlySortedBy}
@@ -39,7 +40,11 @@ use Rattle.metamodel_growth.specs.Renumbered.{class_moved, kind_moved, renumbere
 use Rattle.metamodel_growth.specs.declared.order.Orders.{Orders}
 use Rattle.metamodel_growth.proofs.NameLaws.{no_repeat, one_name}
 use Rattle.metamodel_growth.proofs.OrderLaws.{in_places, place_back, placed, places_rise, rising_distinct, some_is}
-use Rattle.metamodel_growth.proofs.RenumberLaws.{at_class, by_option, class_at, class_from, class_got, classes_long, container_moved, containment_moved, end_from, end_moved, ends_both, ends_other, feature_at, feature_from, feature_none, features_long, got, is_a_at, is_a_from, kind_at, kind_none, low_kind, name_of, never, none_some, opposite_moved, owner_at, placed_class, same_some, scalar_is_moved, target_moved, there_is}
+use Rattle.metamodel_growth.proofs.RenumberLaws.{at_class, by_option, class_at, class_from, class_got, classes_long, container_moved}
+use Rattle.metamodel_growth.proofs.RenumberLaws.{containment_moved, end_from, end_moved, ends_both, ends_other, feature_at, feature_from}
+use Rattle.metamodel_growth.proofs.RenumberLaws.{feature_none, features_long, got, is_a_at, is_a_from, kind_at, kind_none, low_kind, name_of, never}
+use Rattle.metamodel_growth.proofs.RenumberLaws.{none_some, opposite_moved, owner_at, placed_class, same_some, scalar_is_moved, target_moved}
+use Rattle.metamodel_growth.proofs.RenumberLaws.{there_is}
 
 filter_none : (p : ℕ → Bool) → ((k : ℕ) → p k ≡ false) → (ks : List ℕ) → filter p ks ≡ []
 filter_none p h [] = refl

@@ -14,24 +14,33 @@ use Rattle.model_documents.specs.Reads.{«then», unless, found}
 
 module _ (meta : Meta) (f : ℕ) (s : Scalar) (d : Data) where
   pub single_null : is_null d ≡ true → single_part meta f s d ≡ Ok no_part
-  single_null null = ap (λ (b : Bool). cond b (Ok no_part) («then» (found BadValue (value_in meta s d)) (λ v. Ok (set_part f (is_default (kind_of meta f) v) v)))) null
+  single_null null = ap (λ (b : Bool).
+      cond b (Ok no_part) («then» (found BadValue (value_in meta s d)) (λ v. Ok (set_part f (is_default (kind_of meta f) v) v)))) null
 
   there : is_null d ≡ false → single_part meta f s d ≡ «then» (found BadValue (value_in meta s d)) (λ v. Ok (set_part f (is_default (kind_of meta f) v) v))
-  there null = ap (λ (b : Bool). cond b (Ok no_part) («then» (found BadValue (value_in meta s d)) (λ v. Ok (set_part f (is_default (kind_of meta f) v) v)))) null
+  there null = ap (λ (b : Bool).
+      cond b (Ok no_part) («then» (found BadValue (value_in meta s d)) (λ v. Ok (set_part f (is_default (kind_of meta f) v) v)))) null
 
-  pub single_set : (v : Value) (b : Bool) → is_null d ≡ false → found BadValue (value_in meta s d) ≡ Ok v → is_default (kind_of meta f) v ≡ b → single_part meta f s d ≡ Ok (set_part f b v)
-  single_set v b null is default = there null ∙ ap (λ r. «then» r (λ v. Ok (set_part f (is_default (kind_of meta f) v) v))) is ∙ ap (λ (b : Bool). Ok (set_part f b v)) default
+  pub single_set : (v : Value) (b : Bool) → is_null d ≡ false → found BadValue (value_in meta s d) ≡ Ok v → is_default (kind_of meta f) v ≡ b
+      → single_part meta f s d ≡ Ok (set_part f b v)
+  single_set v b null is default =
+      there null ∙ ap (λ r. «then» r (λ v. Ok (set_part f (is_default (kind_of meta f) v) v))) is ∙ ap (λ (b : Bool). Ok (set_part f b v)) default
 
 module _ (meta : Meta) (f : ℕ) (s : Scalar) (unique : Bool) (d : Data) where
   pub many_null : is_null d ≡ true → many_part meta f s unique d ≡ Ok no_part
   many_null null =
-      ap (λ (b : Bool). cond b (Ok no_part) («then» (values_in meta s unique (elements d)) (λ vs. unless (may_hold meta f (length vs)) Bound (Ok (values_part f vs))))) null
+      ap (λ (b : Bool). cond b (Ok no_part)
+      («then» (values_in meta s unique (elements d)) (λ vs. unless (may_hold meta f (length vs)) Bound (Ok (values_part f vs))))) null
 
-  filled : is_null d ≡ false → many_part meta f s unique d ≡ «then» (values_in meta s unique (elements d)) (λ vs. unless (may_hold meta f (length vs)) Bound (Ok (values_part f vs)))
+  filled : is_null d ≡ false
+      → many_part meta f s unique d ≡ «then» (values_in meta s unique (elements d))
+      (λ vs. unless (may_hold meta f (length vs)) Bound (Ok (values_part f vs)))
   filled null =
-      ap (λ (b : Bool). cond b (Ok no_part) («then» (values_in meta s unique (elements d)) (λ vs. unless (may_hold meta f (length vs)) Bound (Ok (values_part f vs))))) null
+      ap (λ (b : Bool). cond b (Ok no_part)
+      («then» (values_in meta s unique (elements d)) (λ vs. unless (may_hold meta f (length vs)) Bound (Ok (values_part f vs))))) null
 
-  pub many_read : (vs : List Value) (b : Bool) (ds : List Data) → is_null d ≡ false → ds ≡ elements d → values_in meta s unique ds ≡ Ok vs → may_hold meta f (length vs) ≡ b
+  pub many_read : (vs : List Value) (b : Bool) (ds : List Data) → is_null d ≡ false → ds ≡ elements d → values_in meta s unique ds ≡ Ok vs
+      → may_hold meta f (length vs) ≡ b
       → many_part meta f s unique d ≡ unless b Bound (Ok (values_part f vs))
   many_read vs b ds null are is within =
       filled null

@@ -1,5 +1,6 @@
 -- What finds the elements by their ids and by their places, one element after another.
-use Rattle.std.proofs.Common.{◌≡◌, ℕ, zero, suc, ◌+◌, ◌<◌, ◌≤◌, Bool, true, false, cond, List, [], ◌∷◌, ◌++◌, length, take, get_or, refl, sym, ap, ◌∙◌, ◌&&◌, ◌||◌, arith, nat_eq, append-nil}
+use Rattle.std.proofs.Common.{◌≡◌, ℕ, zero, suc, ◌+◌, ◌<◌, ◌≤◌, Bool, true, false, cond, List, [], ◌∷◌, ◌++◌, length, take, get_or, refl, sym, ap}
+use Rattle.std.proofs.Common.{◌∙◌, ◌&&◌, ◌||◌, arith, nat_eq, append-nil}
 use Rattle.std.specs.Prelude.{Option, None, Some, is_some, unwrap_or, slice_get, slice_set}
 use Rattle.std.specs.List.{list_any}
 use Rattle.std.specs.BTreeMap.{BTreeMap, get, is_at}
@@ -22,7 +23,8 @@ parent_exact p q h =
     λ i. record { row = rows i; feature = features i }
 
 -- ---- the numbers of the rows that pass a test
-numbers_last : (p : Draft → Bool) (n : ℕ) (rows : List Draft) (r : Draft) (m : ℕ) → n + length rows ≡ m → numbers_where p n (rows ++ r ∷ []) ≡ numbers_where p n rows ++ cond {A = List ℕ} (p r) (m ∷ []) []
+numbers_last : (p : Draft → Bool) (n : ℕ) (rows : List Draft) (r : Draft) (m : ℕ) → n + length rows ≡ m
+    → numbers_where p n (rows ++ r ∷ []) ≡ numbers_where p n rows ++ cond {A = List ℕ} (p r) (m ∷ []) []
 numbers_last p n [] r m is = ap (λ k. cond {A = List ℕ} (p r) (k ∷ []) []) (same n m is)
   where
     same : (n m : ℕ) → n + 0 ≡ m → n ≡ m
@@ -33,11 +35,13 @@ numbers_last p n (x ∷ xs) r m is = by (p x) (numbers_last p (suc n) xs r m (mo
     moved n k m is = omega (arith, is)
 
     by : (b : Bool) → numbers_where p (suc n) (xs ++ r ∷ []) ≡ numbers_where p (suc n) xs ++ cond {A = List ℕ} (p r) (m ∷ []) []
-        → cond b (n ∷ numbers_where p (suc n) (xs ++ r ∷ [])) (numbers_where p (suc n) (xs ++ r ∷ [])) ≡ cond b (n ∷ numbers_where p (suc n) xs) (numbers_where p (suc n) xs) ++ cond {A = List ℕ} (p r) (m ∷ []) []
+        → cond b (n ∷ numbers_where p (suc n) (xs ++ r ∷ [])) (numbers_where p (suc n) (xs ++ r ∷ [])) ≡ cond b (n ∷ numbers_where p (suc n) xs)
+        (numbers_where p (suc n) xs) ++ cond {A = List ℕ} (p r) (m ∷ []) []
     by true h = ap (λ l. n ∷ l) h
     by false h = h
 
-pub numbers_more : (p : Draft → Bool) (rows : List Draft) (n : ℕ) (r : Draft) → n < length rows → r ≡ get_or rows n r → numbers_where p 0 (take (n + 1) rows) ≡ numbers_where p 0 (take n rows) ++ cond {A = List ℕ} (p r) (n ∷ []) []
+pub numbers_more : (p : Draft → Bool) (rows : List Draft) (n : ℕ) (r : Draft) → n < length rows → r ≡ get_or rows n r
+    → numbers_where p 0 (take (n + 1) rows) ≡ numbers_where p 0 (take n rows) ++ cond {A = List ℕ} (p r) (n ∷ []) []
 numbers_more p rows n r less is =
     ap (numbers_where p 0) (take_more rows n r less)
     ∙ numbers_last p 0 (take n rows) (get_or rows n r) n (ap (λ k. 0 + k) (length-take-le n rows (lower n (length rows) less)) ∙ none n)
@@ -55,12 +59,14 @@ first_more [] true n = refl
 first_more [] false n = refl
 first_more (x ∷ xs) b n = refl
 
-pub named_more : (rows : List Draft) (n : ℕ) (r : Draft) (t : IdBytes) → n < length rows → r ≡ get_or rows n r → named (take (n + 1) rows) t ≡ first_of (named (take n rows) t) (cond (has_id t r) (Some n) None)
+pub named_more : (rows : List Draft) (n : ℕ) (r : Draft) (t : IdBytes) → n < length rows → r ≡ get_or rows n r
+    → named (take (n + 1) rows) t ≡ first_of (named (take n rows) t) (cond (has_id t r) (Some n) None)
 named_more rows n r t less is =
     ap (λ ns. slice_get ns 0) (numbers_more (has_id t) rows n r less is)
     ∙ first_more (numbers_where (has_id t) 0 (take n rows)) (has_id t r) n
 
-pub named_last : (rows : List Draft) (r : Draft) (t : IdBytes) → named (rows ++ r ∷ []) t ≡ first_of (named rows t) (cond (has_id t r) (Some (length rows)) None)
+pub named_last : (rows : List Draft) (r : Draft) (t : IdBytes)
+    → named (rows ++ r ∷ []) t ≡ first_of (named rows t) (cond (has_id t r) (Some (length rows)) None)
 named_last rows r t =
     ap (λ ns. slice_get ns 0) (numbers_last (has_id t) 0 rows r (length rows) (none (length rows)))
     ∙ first_more (numbers_where (has_id t) 0 rows) (has_id t r) (length rows)
@@ -74,7 +80,9 @@ named_set rows own r s t at same = ap (λ ns. slice_get ns 0) (go 0 rows own at)
   where
     go : (n : ℕ) (rows : List Draft) (own : ℕ) → r ≡ get_or rows own r → numbers_where (has_id t) n (slice_set rows own s) ≡ numbers_where (has_id t) n rows
     go n [] own at = refl
-    go n (x ∷ xs) zero at = ap (λ b. cond b (n ∷ numbers_where (has_id t) (suc n) xs) (numbers_where (has_id t) (suc n) xs)) (ap (λ o. option_eq text_eq o (Some t)) same ∙ ap (has_id t) at)
+    go n (x ∷ xs) zero at =
+        ap (λ b. cond b (n ∷ numbers_where (has_id t) (suc n) xs) (numbers_where (has_id t) (suc n) xs))
+        (ap (λ o. option_eq text_eq o (Some t)) same ∙ ap (has_id t) at)
     go n (x ∷ xs) (suc k) at = ap (λ ns. cond (has_id t x) (n ∷ ns) ns) (go (suc n) xs k at)
 
 turned : (o : Option IdBytes) (t : IdBytes) → option_eq text_eq o (Some t) ≡ option_eq text_eq (Some t) o
@@ -104,7 +112,8 @@ or_none None = refl
 or_none (Some n) = refl
 
 -- an id that is new has the number of its row
-pub name_added : (f : IdBytes → Option ℕ) (o : Option IdBytes) (id x t : IdBytes) (n : ℕ) → o ≡ Some id → x ≡ id → f id ≡ None → cond (text_eq x t) (Some n) (f t) ≡ first_of (f t) (cond (option_eq text_eq o (Some t)) (Some n) None)
+pub name_added : (f : IdBytes → Option ℕ) (o : Option IdBytes) (id x t : IdBytes) (n : ℕ) → o ≡ Some id → x ≡ id → f id ≡ None
+    → cond (text_eq x t) (Some n) (f t) ≡ first_of (f t) (cond (option_eq text_eq o (Some t)) (Some n) None)
 name_added f o id x t n is same none =
     ap (λ y. cond (text_eq y t) (Some n) (f t)) same
     ∙ by (text_eq id t) refl
@@ -115,7 +124,8 @@ name_added f o id x t n is same none =
     by false h = or_none (f t)
 
 -- an id that is not new keeps its number
-pub name_kept : (f : IdBytes → Option ℕ) (o : Option IdBytes) (id t : IdBytes) (n : ℕ) → o ≡ Some id → is_some (f id) ≡ true → f t ≡ first_of (f t) (cond (option_eq text_eq o (Some t)) (Some n) None)
+pub name_kept : (f : IdBytes → Option ℕ) (o : Option IdBytes) (id t : IdBytes) (n : ℕ) → o ≡ Some id → is_some (f id) ≡ true
+    → f t ≡ first_of (f t) (cond (option_eq text_eq o (Some t)) (Some n) None)
 name_kept f o id t n is had =
     by (text_eq id t) refl
     ∙ ap (λ y. first_of (f t) (cond (option_eq text_eq y (Some t)) (Some n) None)) (sym is)
@@ -135,7 +145,8 @@ same_place p q =
     ∙ ap (λ b. b && is_eq (nat_cmp p.feature q.feature)) (unsigned_tied p.row q.row)
     ∙ ap (λ b. nat_eq p.row q.row && b) (unsigned_tied p.feature q.feature)
 
-pub child_added : (m removed more : BTreeMap (ℕ × ℕ) (List ℕ)) (parent : Option DocParent) (p q : DocParent) (n : ℕ) (v : List ℕ) → parent ≡ Some p → v ≡ numbers_at m p ++ n ∷ []
+pub child_added : (m removed more : BTreeMap (ℕ × ℕ) (List ℕ)) (parent : Option DocParent) (p q : DocParent) (n : ℕ) (v : List ℕ) → parent ≡ Some p
+    → v ≡ numbers_at m p ++ n ∷ []
     → (parent_eq p q ≡ false → numbers_at removed q ≡ numbers_at m q)
     → get place_cmp more (q.row, q.feature) ≡ cond (is_at (place_cmp (p.row, p.feature)) (q.row, q.feature)) (Some v) (get place_cmp removed (q.row, q.feature))
     → numbers_at more q ≡ numbers_at m q ++ cond {A = List ℕ} (option_eq parent_eq parent (Some q)) (n ∷ []) []
@@ -145,6 +156,7 @@ child_added m removed more parent p q n v is added others h =
     ∙ by (parent_eq p q) refl
     ∙ ap (λ o. numbers_at m q ++ cond {A = List ℕ} (option_eq parent_eq o (Some q)) (n ∷ []) []) (sym is)
   where
-    by : (b : Bool) → parent_eq p q ≡ b → unwrap_or (cond b (Some v) (get place_cmp removed (q.row, q.feature))) [] ≡ numbers_at m q ++ cond {A = List ℕ} b (n ∷ []) []
+    by : (b : Bool) → parent_eq p q ≡ b
+        → unwrap_or (cond b (Some v) (get place_cmp removed (q.row, q.feature))) [] ≡ numbers_at m q ++ cond {A = List ℕ} b (n ∷ []) []
     by true same = added ∙ ap (λ r. numbers_at m r ++ n ∷ []) (parent_exact p q same)
     by false apart = others apart ∙ sym (append-nil (numbers_at m q))

@@ -35,18 +35,21 @@ use Rattle.model_documents.proofs.Standing.{Inside, OnTop}
 use Rattle.model_documents.proofs.ValuesFit.{AttrsFit}
 
 -- ---- how many rows stand at a place, by their parents
-parents_count : {A : Type 0} (parent : A → Option DocParent) (p : Option DocParent) (xs : List A) → count_by (λ x. option_eq parent_eq (parent x) p) xs ≡ count_by (λ q. option_eq parent_eq q p) (map parent xs)
+parents_count : {A : Type 0} (parent : A → Option DocParent) (p : Option DocParent) (xs : List A)
+    → count_by (λ x. option_eq parent_eq (parent x) p) xs ≡ count_by (λ q. option_eq parent_eq q p) (map parent xs)
 parents_count parent p [] = refl
 parents_count parent p (x ∷ xs) =
     sum_by-cons (λ x. cond (option_eq parent_eq (parent x) p) 1 0) x xs
     ∙ ap (λ n. cond (option_eq parent_eq (parent x) p) 1 0 + n) (parents_count parent p xs)
     ∙ sym (sum_by-cons (λ (q : Option DocParent). cond (option_eq parent_eq q p) 1 0) (parent x) (map parent xs))
 
-module _ (meta : Meta) (promised : IsMetamodel meta) (drafts : List Draft) (given : List (List DocRefs)) (rows : List DocRow) (gives : given_by meta drafts ≡ Ok given) (makes : rows_by meta given drafts ≡ Ok rows) where
+module _ (meta : Meta) (promised : IsMetamodel meta) (drafts : List Draft) (given : List (List DocRefs)) (rows : List DocRow)
+    (gives : given_by meta drafts ≡ Ok given) (makes : rows_by meta given drafts ≡ Ok rows) where
   same_count : (p : Option DocParent) → standing p rows ≡ count_by (λ (r : Draft). option_eq parent_eq r.parent p) drafts
   same_count p =
       parents_count (λ (r : DocRow). r.parent) p rows
-      ∙ ap (λ (ps : List (Option DocParent)). count_by (λ q. option_eq parent_eq q p) ps) (rows_keep meta (λ (r : Draft). r.parent) (λ (r : DocRow). r.parent) (λ r refs. refl) given [] drafts rows makes)
+      ∙ ap (λ (ps : List (Option DocParent)). count_by (λ q. option_eq parent_eq q p) ps)
+      (rows_keep meta (λ (r : Draft). r.parent) (λ (r : DocRow). r.parent) (λ r refs. refl) given [] drafts rows makes)
       ∙ sym (parents_count (λ (r : Draft). r.parent) p drafts)
 
   -- no containment is above its bound
@@ -79,20 +82,25 @@ module _ (meta : Meta) (promised : IsMetamodel meta) (drafts : List Draft) (give
     row_fits =
         let placed = every_at (λ (r : Draft). standings.Typed meta r × (OnTop meta None None r ⊎ Inside meta 0 drafts r)) drafts n draft stand.each m.drafted in
         let fs = features_of meta draft.class in
-        let attrs : AttrsFit meta w.class w.attrs = subst (λ (x : DocRow). AttrsFit meta x.class x.attrs) m.same (by_keeps (AttrFits meta draft.class) draft.attrs fs placed.0.attrs) in
+        let attrs : AttrsFit meta w.class w.attrs =
+        subst (λ (x : DocRow). AttrsFit meta x.class x.attrs) m.same (by_keeps (AttrFits meta draft.class) draft.attrs fs placed.0.attrs) in
         record {
           concrete = ap (is_concrete meta) class_is ∙ placed.0.concrete;
           stands = subst (λ (x : DocRow). StandsFit meta rows x.class x.parent) m.same (stands_in placed.1);
-          attrs_apart = subst (λ (x : DocRow). numbers_differ (map (λ (a : DocAttr). a.feature) x.attrs) ≡ true) m.same (by_apart draft.attrs fs (features_differ meta promised.lists draft.class));
-          attrs_in_order = subst (λ (x : DocRow). Follows (map (λ (a : DocAttr). a.feature) x.attrs) (features_of meta x.class)) m.same (by_in_order draft.attrs fs);
+          attrs_apart = subst (λ (x : DocRow). numbers_differ (map (λ (a : DocAttr). a.feature) x.attrs) ≡ true) m.same
+              (by_apart draft.attrs fs (features_differ meta promised.lists draft.class));
+          attrs_in_order = subst (λ (x : DocRow). Follows (map (λ (a : DocAttr). a.feature) x.attrs) (features_of meta x.class)) m.same
+              (by_in_order draft.attrs fs);
           attrs = λ i a at. every_at (AttrFits meta w.class) w.attrs i a attrs at;
           refs_apart = refs_apart meta promised drafts given rows gives makes n w m;
-          refs_in_order = subst (λ c. Follows (map (λ (q : DocRefs). q.feature) w.refs) (features_of meta c)) (sym class_is) (refs_in_order meta promised drafts given rows gives makes n w m);
+          refs_in_order = subst (λ c. Follows (map (λ (q : DocRefs). q.feature) w.refs) (features_of meta c)) (sym class_is)
+              (refs_in_order meta promised drafts given rows gives makes n w m);
           refs = λ i q at. subst (λ c. RefsFit meta rows c q) (sym class_is) (list_fits meta promised drafts given rows gives makes n w m i q at);
         }
 
 -- ---- the document
-fits_of : (meta : Meta) → IsMetamodel meta → (text : List ℕ) (rows : List DocRow) → doc_of meta text ≡ Ok rows → (o : Option Data) → ((d : Data) → o ≡ Some d → Trim d) → of_json meta o ≡ Ok rows → DocumentFits meta rows
+fits_of : (meta : Meta) → IsMetamodel meta → (text : List ℕ) (rows : List DocRow) → doc_of meta text ≡ Ok rows → (o : Option Data)
+    → ((d : Data) → o ≡ Some d → Trim d) → of_json meta o ≡ Ok rows → DocumentFits meta rows
 fits_of meta promised text rows read None trim h = cc
 fits_of meta promised text rows read (Some d) trim h =
     let drafts = then_ok (walked meta d) (resolved meta) rows h in
@@ -100,7 +108,8 @@ fits_of meta promised text rows read (Some d) trim h =
     let stands = walked_grows meta (standings.Rows meta) (standings.Keys meta) (standings.kept meta) d drafts.0 (trim d refl) drafts.1 in
     let within = walked_grows meta (bounds.Rows meta) (bounds.Keys meta) (bounds.kept meta) d drafts.0 (trim d refl) drafts.1 in
     record {
-      each = λ n w at. row_fits meta promised drafts.0 given.0 rows given.1 given.2 stands.0 stands.1 n w (made meta promised drafts.0 given.0 rows given.1 given.2 n w at);
+      each = λ n w at. row_fits meta promised drafts.0 given.0 rows given.1 given.2 stands.0 stands.1 n w
+          (made meta promised drafts.0 given.0 rows given.1 given.2 n w at);
       parents = parents_first meta text rows read;
       ids_apart = ids_apart meta text rows read;
       bound = bound_fits meta promised drafts.0 given.0 rows given.1 given.2 within.0 within.1;

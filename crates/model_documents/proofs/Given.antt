@@ -64,20 +64,24 @@ module _ (meta : Meta) (rows : List Draft) where
   class_is : (n : ℕ) (d : Draft) → slice_get rows n ≡ Some d → class_at rows n ≡ d.class
   class_is n d at = ap (λ (o : Option Draft). option_map_or (λ (r : Draft). r.class) o 0) at
 
-  new_target_is : (f : ℕ) (ts : List ℕ) (o : Option ℕ) (n : ℕ) → new_target meta rows f ts o ≡ Ok n → (o ≡ Some n) × (has ts n ≡ false) × (plain_to meta (kind_of meta f) (class_at rows n) ≡ true)
+  new_target_is : (f : ℕ) (ts : List ℕ) (o : Option ℕ) (n : ℕ) → new_target meta rows f ts o ≡ Ok n
+      → (o ≡ Some n) × (has ts n ≡ false) × (plain_to meta (kind_of meta f) (class_at rows n) ≡ true)
   new_target_is f ts None n h = cc
   new_target_is f ts (Some m) n h =
       let typed = unless_ok (not (has ts m)) BadRef (unless (plain_to meta (kind_of meta f) (class_at rows m)) WrongType (Ok m)) n h in
       let same : m ≡ n = number_ok m n (unless_ok (plain_to meta (kind_of meta f) (class_at rows m)) WrongType (Ok m) n typed) in (
         ap (λ x. Some x) same,
-        subst (λ x. has ts x ≡ false) same (not_not (has ts m) (unless_true (not (has ts m)) BadRef (unless (plain_to meta (kind_of meta f) (class_at rows m)) WrongType (Ok m)) n h)),
-        subst (λ x. plain_to meta (kind_of meta f) (class_at rows x) ≡ true) same (unless_true (plain_to meta (kind_of meta f) (class_at rows m)) WrongType (Ok m) n typed),
+        subst (λ x. has ts x ≡ false) same
+            (not_not (has ts m) (unless_true (not (has ts m)) BadRef (unless (plain_to meta (kind_of meta f) (class_at rows m)) WrongType (Ok m)) n h)),
+        subst (λ x. plain_to meta (kind_of meta f) (class_at rows x) ≡ true) same
+            (unless_true (plain_to meta (kind_of meta f) (class_at rows m)) WrongType (Ok m) n typed),
       )
 
   found_row : (entry : Option Name) (n : ℕ) → option_and_then (located meta rows) entry ≡ Some n → IsRow rows n
   found_row entry n h = let t = and_then_some (located meta rows) entry n h in located_row meta rows t.0 n t.2
 
-  one_more : (f : ℕ) (ts : List ℕ) (entry : Option Name) (n : ℕ) → TargetsFit meta rows f ts → target_of meta rows f ts entry ≡ Ok n → TargetsFit meta rows f (ts ++ n ∷ [])
+  one_more : (f : ℕ) (ts : List ℕ) (entry : Option Name) (n : ℕ) → TargetsFit meta rows f ts → target_of meta rows f ts entry ≡ Ok n
+      → TargetsFit meta rows f (ts ++ n ∷ [])
   one_more f ts entry n so h =
       let is = new_target_is f ts (option_and_then (located meta rows) entry) n h in
       let row = found_row entry n is.0 in
@@ -91,7 +95,8 @@ module _ (meta : Meta) (rows : List Draft) where
         ];
       }
 
-  targets_fit : (f : ℕ) (ts : List ℕ) (entries : List (Option Name)) (us : List ℕ) → TargetsFit meta rows f ts → collected (target_of meta rows f) ts entries ≡ Ok us → TargetsFit meta rows f us
+  targets_fit : (f : ℕ) (ts : List ℕ) (entries : List (Option Name)) (us : List ℕ) → TargetsFit meta rows f ts
+      → collected (target_of meta rows f) ts entries ≡ Ok us → TargetsFit meta rows f us
   targets_fit f ts [] us so h = subst (TargetsFit meta rows f) (numbers_ok ts us h) so
     where
       numbers_ok : (xs ys : List ℕ) → ◌≡◌ {A = Read (List ℕ)} (Ok xs) (Ok ys) → xs ≡ ys
@@ -114,13 +119,15 @@ module _ (meta : Meta) (rows : List Draft) where
   ListsFit r refs = Paired (λ k f q. ListFits meta rows f q) 0 (plain_of meta r.class) refs
 
   lists_fit : (before : List (List DocRefs)) (r : Draft) (refs : List DocRefs) → refs_of meta rows before r ≡ Ok refs → ListsFit r refs
-  lists_fit before r refs h = all_pairs (λ k f q. ListFits meta rows f q) (refs_at meta rows r.links) (λ bs f q e. list_fits r.links f q e) (plain_of meta r.class) refs h
+  lists_fit before r refs h =
+      all_pairs (λ k f q. ListFits meta rows f q) (refs_at meta rows r.links) (λ bs f q e. list_fits r.links f q e) (plain_of meta r.class) refs h
 
   pub given_fit : (given : List (List DocRefs)) → given_by meta rows ≡ Ok given → Paired (λ k r refs. ListsFit r refs) 0 rows given
   given_fit given h = all_pairs (λ k r refs. ListsFit r refs) (refs_of meta rows) (λ bs r refs e. lists_fit bs r refs e) rows given h
 
   -- a target that is given
-  pub given_typed : (n : ℕ) (fs : List ℕ) (refs : List DocRefs) (g b : ℕ) → Paired (λ k f q. ListFits meta rows f q) n fs refs → has (targets_at g refs) b ≡ true
+  pub given_typed : (n : ℕ) (fs : List ℕ) (refs : List DocRefs) (g b : ℕ) → Paired (λ k f q. ListFits meta rows f q) n fs refs
+      → has (targets_at g refs) b ≡ true
       → (has fs g ≡ true) × ((d : Draft) × (slice_get rows b ≡ Some d) × (plain_to meta (kind_of meta g) d.class ≡ true))
   given_typed n [] [] g b p h = cc
   given_typed n [] (q ∷ refs) g b p h = absurd p
@@ -128,11 +135,14 @@ module _ (meta : Meta) (rows : List Draft) where
   given_typed n (f ∷ fs) (q ∷ refs) g b p h = by_test (nat_eq g q.feature) refl h (λ e. given_typed (suc n) fs refs g b p.1 e)
     where
       by_test : (t : Bool) → nat_eq g q.feature ≡ t → has (cond t q.targets (targets_at g refs)) b ≡ true
-          → (has (targets_at g refs) b ≡ true → (has fs g ≡ true) × ((d : Draft) × (slice_get rows b ≡ Some d) × (plain_to meta (kind_of meta g) d.class ≡ true)))
+          → (has (targets_at g refs) b ≡ true
+          → (has fs g ≡ true) × ((d : Draft) × (slice_get rows b ≡ Some d) × (plain_to meta (kind_of meta g) d.class ≡ true)))
           → (has (f ∷ fs) g ≡ true) × ((d : Draft) × (slice_get rows b ≡ Some d) × (plain_to meta (kind_of meta g) d.class ≡ true))
       by_test true is h later =
-          let same : g ≡ f = nat_equality.exact g q.feature is ∙ sym p.0.0 in
-          (has_left (f ∷ []) fs g (subst (λ x. has (f ∷ []) x ≡ true) (sym same) (has_left (f ∷ []) [] f (own f))), subst (λ x. (d : Draft) × (slice_get rows b ≡ Some d) × (plain_to meta (kind_of meta x) d.class ≡ true)) (sym same) (p.0.1.typed b h))
+          let same : g ≡ f = nat_equality.exact g q.feature is ∙ sym p.0.0 in (
+            has_left (f ∷ []) fs g (subst (λ x. has (f ∷ []) x ≡ true) (sym same) (has_left (f ∷ []) [] f (own f))),
+            subst (λ x. (d : Draft) × (slice_get rows b ≡ Some d) × (plain_to meta (kind_of meta x) d.class ≡ true)) (sym same) (p.0.1.typed b h),
+          )
         where
           own : (f : ℕ) → has (f ∷ []) f ≡ true
           own f = ap (λ b. b || false) (nat_equality.own f)

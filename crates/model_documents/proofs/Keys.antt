@@ -41,8 +41,10 @@ abbrev mutual
   TrimMembers last no_members = Unit {0}
   TrimMembers last (member k d ms) = Above last k × Trim d × TrimMembers (Some k) ms
 
-put_at : (o : Ordering) (last : Option Name) (k l : Name) (d e : Data) (ms : Members) → slice_cmp nat_cmp k l ≡ o → Above last k → Trim d → TrimMembers last (member l e ms)
-    → (Above (Some l) k → TrimMembers (Some l) (put k d ms)) → TrimMembers last (match_ordering o (member k d (member l e ms)) (member l d ms) (member l e (put k d ms)))
+put_at : (o : Ordering) (last : Option Name) (k l : Name) (d e : Data) (ms : Members) → slice_cmp nat_cmp k l ≡ o → Above last k → Trim d
+    → TrimMembers last (member l e ms)
+    → (Above (Some l) k → TrimMembers (Some l) (put k d ms))
+    → TrimMembers last (match_ordering o (member k d (member l e ms)) (member l d ms) (member l e (put k d ms)))
 put_at Less last k l d e ms is a t h later = (a, t, (is, h.1, h.2))
 put_at Equal last k l d e ms is a t h later = (h.0, t, h.2)
 put_at Greater last k l d e ms is a t h later = (h.0, h.1, later (nat_list_cmp_total.antisymm l k ∙ ap ordering_reverse is))

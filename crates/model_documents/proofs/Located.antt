@@ -30,7 +30,8 @@ numbers_row p n (r ∷ rows) k m h = by_test (p r) k h (λ i e. behind_it (numbe
         moved : (n j : ℕ) → suc n + j ≡ n + suc j
         moved n j = omega arith
 
-    by_test : (b : Bool) (k : ℕ) → slice_get (cond b (n ∷ numbers_where p (suc n) rows) (numbers_where p (suc n) rows)) k ≡ Some m → ((i : ℕ) → slice_get (numbers_where p (suc n) rows) i ≡ Some m → Numbered n (r ∷ rows) m) → Numbered n (r ∷ rows) m
+    by_test : (b : Bool) (k : ℕ) → slice_get (cond b (n ∷ numbers_where p (suc n) rows) (numbers_where p (suc n) rows)) k ≡ Some m
+        → ((i : ℕ) → slice_get (numbers_where p (suc n) rows) i ≡ Some m → Numbered n (r ∷ rows) m) → Numbered n (r ∷ rows) m
     by_test true zero h later = let e : n ≡ m = cc in (0, r, sym e ∙ nothing n, refl)
       where
         nothing : (n : ℕ) → n ≡ n + 0
@@ -57,7 +58,9 @@ module _ (meta : Meta) (rows : List Draft) where
   by_row p None index m h = cc
   by_row p (Some f) index m h = by_test (is_containment (kind_of meta f)) h
     where
-      by_test : (b : Bool) → cond b (option_and_then (child_at rows (Some (record { row = p; feature = f }))) (index_of (is_one (upper_of meta f)) index)) None ≡ Some m → IsRow rows m
+      by_test : (b : Bool) → cond b
+          (option_and_then (child_at rows (Some (record { row = p; feature = f }))) (index_of (is_one (upper_of meta f)) index)) None ≡ Some m
+          → IsRow rows m
       by_test true h = children_row (Some (record { row = p; feature = f })) (index_of (is_one (upper_of meta f)) index) m h
       by_test false h = cc
 

@@ -33,7 +33,8 @@ plain_kind meta (Contains t o) d h = cc
 plain_kind meta (Container t o) d h = cc
 plain_kind meta Skip d h = cc
 
-features_are : (meta : Meta) (drafts : List Draft) (n : ℕ) (fs : List ℕ) (refs : List DocRefs) → Paired (λ k f q. ListFits meta drafts f q) n fs refs → features refs ≡ fs
+features_are : (meta : Meta) (drafts : List Draft) (n : ℕ) (fs : List ℕ) (refs : List DocRefs) → Paired (λ k f q. ListFits meta drafts f q) n fs refs
+    → features refs ≡ fs
 features_are meta drafts n [] [] p = refl
 features_are meta drafts n [] (q ∷ refs) p = absurd p
 features_are meta drafts n (f ∷ fs) [] p = absurd p
@@ -49,7 +50,8 @@ pub record Made (meta : Meta) (drafts : List Draft) (given : List (List DocRefs)
   pub merged : Paired (λ k q m. IsMerged meta given n q m) 0 lists w.refs
   pub same : row_of meta draft w.refs ≡ w
 
-module _ (meta : Meta) (promised : IsMetamodel meta) (drafts : List Draft) (given : List (List DocRefs)) (rows : List DocRow) (gives : given_by meta drafts ≡ Ok given) (makes : rows_by meta given drafts ≡ Ok rows) where
+module _ (meta : Meta) (promised : IsMetamodel meta) (drafts : List Draft) (given : List (List DocRefs)) (rows : List DocRow)
+    (gives : given_by meta drafts ≡ Ok given) (makes : rows_by meta given drafts ≡ Ok rows) where
   abbrev MadeOf : ℕ → Draft → DocRow → Type 0
   MadeOf n r w = (merged_all meta given n (given_at given n) ≡ Ok w.refs) × (row_of meta r w.refs ≡ w)
 
@@ -97,13 +99,15 @@ module _ (meta : Meta) (promised : IsMetamodel meta) (drafts : List Draft) (give
   some_lists n xs ys h g = let same : Some xs ≡ Some ys = sym h ∙ g in cc
 
   -- an element that gives another as a target by the opposite of f may be a target of it by f
-  back : (r b : Draft) (refs : List DocRefs) (n f g : ℕ) → opposite_of meta f ≡ Some g → ListsFit meta drafts b refs → slice_get drafts n ≡ Some r → has (targets_at g refs) n ≡ true → links meta r.class f b.class ≡ true
+  back : (r b : Draft) (refs : List DocRefs) (n f g : ℕ) → opposite_of meta f ≡ Some g → ListsFit meta drafts b refs → slice_get drafts n ≡ Some r
+      → has (targets_at g refs) n ≡ true → links meta r.class f b.class ≡ true
   back r b refs n f g other fit at names =
       let typed = given_typed meta drafts 0 (plain_of meta b.class) refs g n fit names in
       let plain = plain_has meta b.class g typed.0 in
       let same : typed.1.0 ≡ r = some_draft n typed.1.0 r typed.1.1 at in
       let linked : links meta b.class g r.class ≡ true =
-      and_both (has_feature meta b.class g) (plain_to meta (kind_of meta g) r.class) plain.1 (subst (λ (x : Draft). plain_to meta (kind_of meta g) x.class ≡ true) same typed.1.2) in
+      and_both (has_feature meta b.class g) (plain_to meta (kind_of meta g) r.class) plain.1
+      (subst (λ (x : Draft). plain_to meta (kind_of meta g) x.class ≡ true) same typed.1.2) in
       promised.sound.mirrors b.class g r.class f (promised.sound.both f g other) linked
 
   -- ---- the lists of a row
@@ -201,7 +205,8 @@ module _ (meta : Meta) (promised : IsMetamodel meta) (drafts : List Draft) (give
     in_list (inr e) =
         elim (is_either (has (targets_at f m.lists) b)) [
           | inl h ↦ has_left (targets_at f m.lists) (naming g n (targets_at f m.lists) 0 given) b h
-          | inr h ↦ has_right (targets_at f m.lists) (naming g n (targets_at f m.lists) 0 given) b (named_there g n (targets_at f m.lists) 0 given b b l.lists (sym (none_less b)) l.given_there e h)
+          | inr h ↦ has_right (targets_at f m.lists) (naming g n (targets_at f m.lists) 0 given) b
+              (named_there g n (targets_at f m.lists) 0 given b b l.lists (sym (none_less b)) l.given_there e h)
         ]
 
     pub come_back : Linked n f m.lists b g l.lists → has (targets_at f w.refs) b ≡ true
@@ -211,7 +216,8 @@ module _ (meta : Meta) (promised : IsMetamodel meta) (drafts : List Draft) (give
   turned n f b g xs ys (inl e) = inr e
   turned n f b g xs ys (inr e) = inl e
 
-  pub mirrored : (n : ℕ) (w : DocRow) (f b : ℕ) (x : DocRow) (g : ℕ) → slice_get rows n ≡ Some w → slice_get rows b ≡ Some x → opposite_of meta f ≡ Some g → has (targets_at f w.refs) b ≡ has (targets_at g x.refs) n
+  pub mirrored : (n : ℕ) (w : DocRow) (f b : ℕ) (x : DocRow) (g : ℕ) → slice_get rows n ≡ Some w → slice_get rows b ≡ Some x
+      → opposite_of meta f ≡ Some g → has (targets_at f w.refs) b ≡ has (targets_at g x.refs) n
   mirrored n w f b x g here there other =
       let m = made n w here in
       let l = made b x there in

@@ -1,5 +1,6 @@
 -- Lists of references with the targets that either side gives.
-use Rattle.std.proofs.Common.{◌≡◌, ℕ, zero, suc, ◌+◌, Bool, true, false, ◌&&◌, ◌||◌, not, cond, List, [], ◌∷◌, ◌++◌, length, map, nat_eq, refl, sym, ap, ap₂, subst, ◌∙◌, inl, inr, arith}
+use Rattle.std.proofs.Common.{◌≡◌, ℕ, zero, suc, ◌+◌, Bool, true, false, ◌&&◌, ◌||◌, not, cond, List, [], ◌∷◌, ◌++◌, length, map, nat_eq, refl, sym}
+use Rattle.std.proofs.Common.{ap, ap₂, subst, ◌∙◌, inl, inr, arith}
 use Rattle.std.specs.Prelude.{Option, None, Some, Ok, slice_get}
 use Rattle.std.proofs.lemmas.Bool.{or_left, or_right}
 use Rattle.finite_maps.proofs.Cases.{not_so, true_false}
@@ -41,13 +42,15 @@ module _ (g a : ℕ) (ts : List ℕ) where
   nothing n = omega arith
 
   later_names : (n : ℕ) (refs : List DocRefs) (given : List (List DocRefs)) (b : ℕ) → Names (suc n) given b → Names n (refs ∷ given) b
-  later_names n refs given b at = record { place = suc at.place; lists = at.lists; number = at.number ∙ moved n at.place; there = at.there; names = at.names; new = at.new }
+  later_names n refs given b at =
+      record { place = suc at.place; lists = at.lists; number = at.number ∙ moved n at.place; there = at.there; names = at.names; new = at.new }
 
   pub named_in : (n : ℕ) (given : List (List DocRefs)) (b : ℕ) → has (naming g a ts n given) b ≡ true → Names n given b
   named_in n [] b h = cc
   named_in n (refs ∷ given) b h = by_test (names n refs) refl h (λ e. later_names n refs given b (named_in (suc n) given b e))
     where
-      by_test : (t : Bool) → names n refs ≡ t → has (cond t (n ∷ naming g a ts (suc n) given) (naming g a ts (suc n) given)) b ≡ true → (has (naming g a ts (suc n) given) b ≡ true → Names n (refs ∷ given) b) → Names n (refs ∷ given) b
+      by_test : (t : Bool) → names n refs ≡ t → has (cond t (n ∷ naming g a ts (suc n) given) (naming g a ts (suc n) given)) b ≡ true
+          → (has (naming g a ts (suc n) given) b ≡ true → Names n (refs ∷ given) b) → Names n (refs ∷ given) b
       by_test true is h later =
           elim (or_split (nat_eq b n) (has (naming g a ts (suc n) given) b) h) [
             | inl e ↦
@@ -64,16 +67,19 @@ module _ (g a : ℕ) (ts : List ℕ) where
           ]
       by_test false is h later = later h
 
-  pub named_there : (n : ℕ) (given : List (List DocRefs)) (b j : ℕ) (refs : List DocRefs) → b ≡ n + j → slice_get given j ≡ Some refs → has (targets_at g refs) a ≡ true → has ts b ≡ false → has (naming g a ts n given) b ≡ true
+  pub named_there : (n : ℕ) (given : List (List DocRefs)) (b j : ℕ) (refs : List DocRefs) → b ≡ n + j → slice_get given j ≡ Some refs
+      → has (targets_at g refs) a ≡ true → has ts b ≡ false → has (naming g a ts n given) b ≡ true
   named_there n [] b j refs at there named new = cc
   named_there n (first ∷ given) b zero refs at there named new =
       let same : first ≡ refs = cc in
       let here : b ≡ n = at ∙ sym (nothing n) in
       let test : names n first ≡ true =
-      and_both (has (targets_at g first) a) (not (has ts n)) (subst (λ rs. has (targets_at g rs) a ≡ true) (sym same) named) (not_is (has ts n) (ap (has ts) (sym here) ∙ new)) in
+      and_both (has (targets_at g first) a) (not (has ts n)) (subst (λ rs. has (targets_at g rs) a ≡ true) (sym same) named)
+      (not_is (has ts n) (ap (has ts) (sym here) ∙ new)) in
       ap (λ t. has (cond t (n ∷ naming g a ts (suc n) given) (naming g a ts (suc n) given)) b) test
       ∙ or_left (nat_eq b n) (has (naming g a ts (suc n) given) b) (subst (λ x. nat_eq b x ≡ true) here (nat_equality.own b))
-  named_there n (first ∷ given) b (suc j) refs at there named new = by_test (names n first) (named_there (suc n) given b j refs (at ∙ sym (moved n j)) there named new)
+  named_there n (first ∷ given) b (suc j) refs at there named new =
+      by_test (names n first) (named_there (suc n) given b j refs (at ∙ sym (moved n j)) there named new)
     where
       by_test : (t : Bool) → has (naming g a ts (suc n) given) b ≡ true → has (cond t (n ∷ naming g a ts (suc n) given) (naming g a ts (suc n) given)) b ≡ true
       by_test true e = or_right (nat_eq b n) (has (naming g a ts (suc n) given) b) e
@@ -86,10 +92,12 @@ module _ (g a : ℕ) (ts : List ℕ) where
       not_later : (n j : ℕ) → n ≡ suc n + j → ⊥
       not_later n j e = omega (arith, e)
 
-      by_test : (t : Bool) → numbers_differ (naming g a ts (suc n) given) ≡ true → numbers_differ (cond t (n ∷ naming g a ts (suc n) given) (naming g a ts (suc n) given)) ≡ true
+      by_test : (t : Bool) → numbers_differ (naming g a ts (suc n) given) ≡ true
+          → numbers_differ (cond t (n ∷ naming g a ts (suc n) given) (naming g a ts (suc n) given)) ≡ true
       by_test true e =
           and_both (not (has (naming g a ts (suc n) given) n)) (numbers_differ (naming g a ts (suc n) given))
-          (not_is (has (naming g a ts (suc n) given) n) (not_so (has (naming g a ts (suc n) given) n) (λ k. let at = named_in (suc n) given n k in not_later n at.place at.number))) e
+          (not_is (has (naming g a ts (suc n) given) n)
+          (not_so (has (naming g a ts (suc n) given) n) (λ k. let at = named_in (suc n) given n k in not_later n at.place at.number))) e
       by_test false e = e
 
   pub named_apart : (given : List (List DocRefs)) → numbers_differ ts ≡ true → numbers_differ (ts ++ naming g a ts 0 given) ≡ true
@@ -97,7 +105,8 @@ module _ (g a : ℕ) (ts : List ℕ) where
       apart_append ts (naming g a ts 0 given) h (naming_apart 0 given)
       (λ n e. not_so (has (naming g a ts 0 given) n) (λ k. let at = named_in 0 given n k in true_false (has ts n) e at.new))
 
-pub others_apart : (o : Option ℕ) (a : ℕ) (ts : List ℕ) (given : List (List DocRefs)) → numbers_differ ts ≡ true → numbers_differ (ts ++ others o a ts given) ≡ true
+pub others_apart : (o : Option ℕ) (a : ℕ) (ts : List ℕ) (given : List (List DocRefs)) → numbers_differ ts ≡ true
+    → numbers_differ (ts ++ others o a ts given) ≡ true
 others_apart None a ts given h = apart_append ts [] h refl (λ n e. refl)
 others_apart (Some g) a ts given h = named_apart g a ts given h
 
@@ -119,9 +128,12 @@ module _ (meta : Meta) (given : List (List DocRefs)) (a : ℕ) where
   merged_one q m h =
       let ts = then_ok (merged_within meta given a q) (λ ts. Ok (record { feature = q.feature; targets = ts })) m h in
       let same : record { feature = q.feature; targets = ts.0 } ≡ m = list_ok (record { feature = q.feature; targets = ts.0 }) m ts.2 in
-      let is : merged meta given a q ≡ ts.0 = numbers_ok (merged meta given a q) ts.0 (unless_ok (is_within (length (merged meta given a q)) (row_upper meta q.feature)) Bound (Ok (merged meta given a q)) ts.0 ts.1) in
+      let is : merged meta given a q ≡ ts.0 =
+      numbers_ok (merged meta given a q) ts.0
+      (unless_ok (is_within (length (merged meta given a q)) (row_upper meta q.feature)) Bound (Ok (merged meta given a q)) ts.0 ts.1) in
       let within = unless_true (is_within (length (merged meta given a q)) (row_upper meta q.feature)) Bound (Ok (merged meta given a q)) ts.0 ts.1 in
-      subst (IsMerged meta given a q) same (record { feature = refl; targets = sym is; within = ap (λ (xs : List ℕ). is_within (length xs) (row_upper meta q.feature)) (sym is) ∙ within })
+      subst (IsMerged meta given a q) same
+      (record { feature = refl; targets = sym is; within = ap (λ (xs : List ℕ). is_within (length xs) (row_upper meta q.feature)) (sym is) ∙ within })
 
   pub merged_pairs : (refs ms : List DocRefs) → merged_all meta given a refs ≡ Ok ms → Paired (λ k q m. IsMerged meta given a q m) 0 refs ms
   merged_pairs refs ms h = all_pairs (λ k q m. IsMerged meta given a q m) (merged_at meta given a) (λ bs q m e. merged_one q m e) refs ms h
@@ -133,13 +145,16 @@ module _ (meta : Meta) (given : List (List DocRefs)) (a : ℕ) where
   features_same n (q ∷ refs) (m ∷ ms) p = ap₂ (λ x xs. x ∷ xs) (sym p.0.feature) (features_same (suc n) refs ms p.1)
 
   -- the merged list of a feature
-  pub merged_list : (n : ℕ) (refs ms : List DocRefs) (f : ℕ) → Paired (λ k q m. IsMerged meta given a q m) n refs ms → has (features refs) f ≡ true → targets_at f ms ≡ merged meta given a (record { feature = f; targets = targets_at f refs })
+  pub merged_list : (n : ℕ) (refs ms : List DocRefs) (f : ℕ) → Paired (λ k q m. IsMerged meta given a q m) n refs ms → has (features refs) f ≡ true
+      → targets_at f ms ≡ merged meta given a (record { feature = f; targets = targets_at f refs })
   merged_list n [] ms f p h = cc
   merged_list n (q ∷ refs) [] f p h = absurd p
   merged_list n (q ∷ refs) (m ∷ ms) f p h = by_test (nat_eq f q.feature) refl h (λ e. merged_list (suc n) refs ms f p.1 e)
     where
-      by_test : (t : Bool) → nat_eq f q.feature ≡ t → t || has (features refs) f ≡ true → (has (features refs) f ≡ true → targets_at f ms ≡ merged meta given a (record { feature = f; targets = targets_at f refs }))
-          → cond (nat_eq f m.feature) m.targets (targets_at f ms) ≡ merged meta given a (record { feature = f; targets = cond (nat_eq f q.feature) q.targets (targets_at f refs) })
+      by_test : (t : Bool) → nat_eq f q.feature ≡ t → t || has (features refs) f ≡ true
+          → (has (features refs) f ≡ true → targets_at f ms ≡ merged meta given a (record { feature = f; targets = targets_at f refs }))
+          → cond (nat_eq f m.feature) m.targets (targets_at f ms) ≡ merged meta given a
+          (record { feature = f; targets = cond (nat_eq f q.feature) q.targets (targets_at f refs) })
       by_test true is h later =
           ap (λ b. cond b m.targets (targets_at f ms)) (ap (nat_eq f) (sym p.0.feature) ∙ is)
           ∙ p.0.targets
@@ -155,6 +170,7 @@ pub listed : (refs : List DocRefs) (f b : ℕ) → has (targets_at f refs) b ≡
 listed [] f b h = cc
 listed (q ∷ refs) f b h = by_test (nat_eq f q.feature) h (λ e. listed refs f b e)
   where
-    by_test : (t : Bool) → has (cond t q.targets (targets_at f refs)) b ≡ true → (has (targets_at f refs) b ≡ true → has (features refs) f ≡ true) → t || has (features refs) f ≡ true
+    by_test : (t : Bool) → has (cond t q.targets (targets_at f refs)) b ≡ true → (has (targets_at f refs) b ≡ true → has (features refs) f ≡ true)
+        → t || has (features refs) f ≡ true
     by_test true h later = refl
     by_test false h later = later h

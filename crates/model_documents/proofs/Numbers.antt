@@ -62,8 +62,11 @@ pub apart_append : (xs ys : List ℕ) → numbers_differ xs ≡ true → numbers
 apart_append [] ys h g other = g
 apart_append (x ∷ xs) ys h g other =
     and_both (not (has (xs ++ ys) x)) (numbers_differ (xs ++ ys))
-    (not_is (has (xs ++ ys) x) (has_append xs ys x ∙ neither (has xs x) (has ys x) (not_not (has xs x) (and_first (not (has xs x)) (numbers_differ xs) h)) (other x (or_left (nat_eq x x) (has xs x) (nat_equality.own x)))))
+    (not_is (has (xs ++ ys) x)
+    (has_append xs ys x ∙ neither (has xs x) (has ys x) (not_not (has xs x) (and_first (not (has xs x)) (numbers_differ xs) h))
+    (other x (or_left (nat_eq x x) (has xs x) (nat_equality.own x)))))
     (apart_append xs ys (and_second (not (has xs x)) (numbers_differ xs) h) g (λ n e. other n (or_right (nat_eq n x) (has xs n) e)))
 
 pub apart_last : (xs : List ℕ) (n : ℕ) → numbers_differ xs ≡ true → has xs n ≡ false → numbers_differ (xs ++ n ∷ []) ≡ true
-apart_last xs n h g = apart_append xs (n ∷ []) h refl (λ m e. not_so (has (n ∷ []) m) (λ k. true_false (has xs n) (subst (λ x. has xs x ≡ true) (has_one n m k) e) g))
+apart_last xs n h g = apart_append xs (n ∷ []) h refl
+    (λ m e. not_so (has (n ∷ []) m) (λ k. true_false (has xs n) (subst (λ x. has xs x ≡ true) (has_one n m k) e) g))

@@ -1,6 +1,7 @@
 -- Each element of a document stands after the one that contains it.
 use Rattle.std.proofs.lemmas.Bool.Decides.{nat_tests}
-use Rattle.std.proofs.Common.{◌≡◌, ℕ, ◌+◌, suc, Bool, true, false, ◌&&◌, List, [], ◌∷◌, ◌++◌, map, length, codes, nat_lt, refl, sym, ap, subst, ◌∙◌, append-nil, inl, inr, arith}
+use Rattle.std.proofs.Common.{◌≡◌, ℕ, ◌+◌, suc, Bool, true, false, ◌&&◌, List, [], ◌∷◌, ◌++◌, map, length, codes, nat_lt, refl, sym, ap, subst, ◌∙◌}
+use Rattle.std.proofs.Common.{append-nil, inl, inr, arith}
 use Rattle.std.specs.Prelude.{Option, None, Some, Ok, not}
 use Rattle.serde_json.specs.Data.{Data, null, boolean, number, string, array, object, Items, no_items, item, Members, no_members, member}
 use Rattle.serde_json.specs.Find.{get_member}
@@ -92,7 +93,8 @@ pub rows_ok : (xs ys : List Draft) → ◌≡◌ {A = Read (List Draft)} (Ok xs)
 rows_ok xs ys h = cc
 
 -- rows after those that are there
-more_behind : (ids : Ids) (rows more : List Draft) → behind (length ids) (parents rows) ≡ true → behind (length (ids ++ ids_of rows)) (parents more) ≡ true → behind (length ids) (parents (rows ++ more)) ≡ true
+more_behind : (ids : Ids) (rows more : List Draft) → behind (length ids) (parents rows) ≡ true
+    → behind (length (ids ++ ids_of rows)) (parents more) ≡ true → behind (length ids) (parents (rows ++ more)) ≡ true
 more_behind ids rows more h g =
     ap (behind (length ids)) (parents_append rows more)
     ∙ behind_append (length ids) (parents rows) (parents more) h (ap (λ n. behind n (parents more)) (sym (length_ids ids rows)) ∙ g)
@@ -100,28 +102,36 @@ more_behind ids rows more h g =
 none_behind : (ids : Ids) (rows more : List Draft) → more ≡ [] → behind (length ids) (parents rows) ≡ true → behind (length ids) (parents (rows ++ more)) ≡ true
 none_behind ids rows more none h = ap (λ m. behind (length ids) (parents (rows ++ m))) none ∙ ap (λ rs. behind (length ids) (parents rs)) (append-nil rows) ∙ h
 
-pub still_before : (ids : Ids) (rows : List Draft) (p : Option DocParent) → parent_before (length ids) p ≡ true → parent_before (length (ids ++ ids_of rows)) p ≡ true
+pub still_before : (ids : Ids) (rows : List Draft) (p : Option DocParent) → parent_before (length ids) p ≡ true
+    → parent_before (length (ids ++ ids_of rows)) p ≡ true
 still_before ids rows p h = ap (λ n. parent_before n p) (length_ids ids rows) ∙ before_more p (length ids) (length (parents rows)) h
 
 module _ (meta : Meta) where
   -- an object whose keys keep to this
   object_behind : (ids : Ids) (parent : Option DocParent) (default : Option ℕ) (ms : Members) (inside : ℕ → Ids → Read Part)
-      → ((c : ℕ) (id : Option IdBytes) (part : Part) → nat_lt (length ids) (length (ids ++ id ∷ [])) ≡ true → inside c (ids ++ id ∷ []) ≡ Ok part → behind (length (ids ++ id ∷ [])) (parents part.rows) ≡ true)
-      → (more : List Draft) → parent_before (length ids) parent ≡ true → object_rows meta ids parent default ms inside ≡ Ok more → behind (length ids) (parents more) ≡ true
+      → ((c : ℕ) (id : Option IdBytes) (part : Part) → nat_lt (length ids) (length (ids ++ id ∷ [])) ≡ true → inside c (ids ++ id ∷ []) ≡ Ok part
+      → behind (length (ids ++ id ∷ [])) (parents part.rows) ≡ true)
+      → (more : List Draft) → parent_before (length ids) parent ≡ true → object_rows meta ids parent default ms inside ≡ Ok more
+      → behind (length ids) (parents more) ≡ true
   object_behind ids parent default ms inside keeps more before h =
-      let class = then_ok (class_of meta default (get_member (codes "eClass") ms)) (λ c. «then» (id_of ids (get_member (codes "_id") ms)) (λ id. own_rows parent id c (inside c (ids ++ id ∷ [])))) more h in
+      let class = then_ok (class_of meta default (get_member (codes "eClass") ms))
+      (λ c. «then» (id_of ids (get_member (codes "_id") ms)) (λ id. own_rows parent id c (inside c (ids ++ id ∷ [])))) more h in
       let name = then_ok (id_of ids (get_member (codes "_id") ms)) (λ id. own_rows parent id class.0 (inside class.0 (ids ++ id ∷ []))) more class.2 in
-      let part = then_ok (inside class.0 (ids ++ name.0 ∷ [])) (λ (p : Part). Ok (record { id = name.0; class = class.0; parent = parent; attrs = p.attrs; links = p.links } ∷ p.rows)) more name.2 in
+      let part = then_ok (inside class.0 (ids ++ name.0 ∷ []))
+      (λ (p : Part). Ok (record { id = name.0; class = class.0; parent = parent; attrs = p.attrs; links = p.links } ∷ p.rows)) more name.2 in
       let longer = length_last ids name.0 in
       let kept = keeps class.0 name.0 part.0 (ap (nat_lt (length ids)) longer ∙ own_less (length ids)) part.1 in
-      let same : record { id = name.0; class = class.0; parent = parent; attrs = part.0.attrs; links = part.0.links } ∷ part.0.rows ≡ more = rows_ok _ more part.2 in
+      let same : record { id = name.0; class = class.0; parent = parent; attrs = part.0.attrs; links = part.0.links } ∷ part.0.rows ≡ more =
+      rows_ok _ more part.2 in
       subst (λ (rows : List Draft). behind (length ids) (parents rows) ≡ true) same
-      (both (parent_before (length ids) parent) (behind (suc (length ids)) (parents part.0.rows)) before (ap (λ n. behind n (parents part.0.rows)) (sym longer) ∙ kept))
+      (both (parent_before (length ids) parent) (behind (suc (length ids)) (parents part.0.rows)) before
+      (ap (λ n. behind n (parents part.0.rows)) (sym longer) ∙ kept))
 
   mutual
     unfolding element_rows items_rows members_rows held_rows
 
-    element_behind : (ids : Ids) (parent : Option DocParent) (default : Option ℕ) (d : Data) (more : List Draft) → parent_before (length ids) parent ≡ true → element_rows meta ids parent default d ≡ Ok more
+    element_behind : (ids : Ids) (parent : Option DocParent) (default : Option ℕ) (d : Data) (more : List Draft)
+        → parent_before (length ids) parent ≡ true → element_rows meta ids parent default d ≡ Ok more
         → behind (length ids) (parents more) ≡ true
     element_behind ids parent default (object ms) more before h =
         object_behind ids parent default ms (λ c below. members_rows meta c (length ids) below no_part ms)
@@ -132,15 +142,18 @@ module _ (meta : Meta) where
     element_behind ids parent default (string s) more before h = cc
     element_behind ids parent default (array ds) more before h = cc
 
-    items_behind : (ids : Ids) (parent : Option DocParent) (default : Option ℕ) (rows : List Draft) (ds : Items) (more : List Draft) → parent_before (length ids) parent ≡ true → behind (length ids) (parents rows) ≡ true
+    items_behind : (ids : Ids) (parent : Option DocParent) (default : Option ℕ) (rows : List Draft) (ds : Items) (more : List Draft)
+        → parent_before (length ids) parent ≡ true → behind (length ids) (parents rows) ≡ true
         → items_rows meta ids parent default rows ds ≡ Ok more → behind (length ids) (parents more) ≡ true
-    items_behind ids parent default rows no_items more before so h = subst (λ (rs : List Draft). behind (length ids) (parents rs) ≡ true) (rows_ok rows more h) so
+    items_behind ids parent default rows no_items more before so h =
+        subst (λ (rs : List Draft). behind (length ids) (parents rs) ≡ true) (rows_ok rows more h) so
     items_behind ids parent default rows (item d ds) more before so h =
         let one = then_ok (element_rows meta (ids ++ ids_of rows) parent default d) (λ more. items_rows meta ids parent default (rows ++ more) ds) more h in
         items_behind ids parent default (rows ++ one.0) ds more before
         (more_behind ids rows one.0 so (element_behind (ids ++ ids_of rows) parent default d one.0 (still_before ids rows parent before) one.1)) one.2
 
-    members_behind : (c own : ℕ) (ids : Ids) (part : Part) (ms : Members) (more : Part) → nat_lt own (length ids) ≡ true → behind (length ids) (parents part.rows) ≡ true → members_rows meta c own ids part ms ≡ Ok more
+    members_behind : (c own : ℕ) (ids : Ids) (part : Part) (ms : Members) (more : Part) → nat_lt own (length ids) ≡ true
+        → behind (length ids) (parents part.rows) ≡ true → members_rows meta c own ids part ms ≡ Ok more
         → behind (length ids) (parents more.rows) ≡ true
     members_behind c own ids part no_members more less so h = subst (λ (p : Part). behind (length ids) (parents p.rows) ≡ true) (of_ok part more h) so
     members_behind c own ids part (member k d ms) more less so h =
@@ -151,19 +164,24 @@ module _ (meta : Meta) where
           | inl none ↦ none_behind ids part.rows one.0.rows none so
           | inr some ↦
               more_behind ids part.rows one.0.rows so
-              (held_behind (ids ++ ids_of part.rows) (record { row = own; feature = some.0 }) some.1 d one.0.rows (still_before ids part.rows (Some (record { row = own; feature = some.0 })) less) some.2)
+              (held_behind (ids ++ ids_of part.rows) (record { row = own; feature = some.0 }) some.1 d one.0.rows
+              (still_before ids part.rows (Some (record { row = own; feature = some.0 })) less) some.2)
         ]) one.2
 
-    held_behind : (ids : Ids) (parent : DocParent) (target : ℕ) (d : Data) (more : List Draft) → parent_before (length ids) (Some parent) ≡ true → held_rows meta ids parent target d ≡ Ok more → behind (length ids) (parents more) ≡ true
+    held_behind : (ids : Ids) (parent : DocParent) (target : ℕ) (d : Data) (more : List Draft) → parent_before (length ids) (Some parent) ≡ true
+        → held_rows meta ids parent target d ≡ Ok more → behind (length ids) (parents more) ≡ true
     held_behind ids parent target null more before h = subst (λ (rs : List Draft). behind (length ids) (parents rs) ≡ true) (rows_ok [] more h) refl
     held_behind ids parent target (object ms) more before h =
         object_behind ids (Some parent) (Some target) ms (λ c below. members_rows meta c (length ids) below no_part ms)
         (λ c id part less e. members_behind c (length ids) (ids ++ id ∷ []) no_part ms part less refl e) more before
-        (unless_ok (is_within 1 (upper_of meta parent.feature)) Bound (object_rows meta ids (Some parent) (Some target) ms (λ c below. members_rows meta c (length ids) below no_part ms)) more h)
+        (unless_ok (is_within 1 (upper_of meta parent.feature)) Bound
+        (object_rows meta ids (Some parent) (Some target) ms (λ c below. members_rows meta c (length ids) below no_part ms)) more h)
     held_behind ids parent target (array ds) more before h =
         items_behind ids (Some parent) (Some target) [] ds more before refl
         (unless_ok (is_within (length (list_of ds)) (upper_of meta parent.feature)) Bound (items_rows meta ids (Some parent) (Some target) [] ds) more
-        (unless_ok (not (is_one (upper_of meta parent.feature))) WrongType (unless (is_within (length (list_of ds)) (upper_of meta parent.feature)) Bound (items_rows meta ids (Some parent) (Some target) [] ds)) more h))
+        (unless_ok (not (is_one (upper_of meta parent.feature))) WrongType
+        (unless (is_within (length (list_of ds)) (upper_of meta parent.feature)) Bound (items_rows meta ids (Some parent) (Some target) [] ds))
+        more h))
     held_behind ids parent target (boolean b) more before h = cc
     held_behind ids parent target (number n) more before h = cc
     held_behind ids parent target (string s) more before h = cc
@@ -185,7 +203,9 @@ of_data meta None rows h = cc
 of_data meta (Some d) rows h =
     let drafts = then_ok (walked meta d) (resolved meta) rows h in
     let given = then_ok (given_by meta drafts.0) (λ given. rows_by meta given drafts.0) rows drafts.2 in
-    rows_behind 0 rows ∙ ap (behind 0) (rows_keep meta (λ (r : Draft). r.parent) (λ (r : DocRow). r.parent) (λ r refs. refl) given.0 [] drafts.0 rows given.2) ∙ walked_behind meta d drafts.0 drafts.1
+    rows_behind 0 rows ∙ ap (behind 0)
+    (rows_keep meta (λ (r : Draft). r.parent) (λ (r : DocRow). r.parent) (λ r refs. refl) given.0 [] drafts.0 rows given.2)
+    ∙ walked_behind meta d drafts.0 drafts.1
 
 pub parents_first : ParentsComeFirst
 unfolding doc_of

@@ -98,19 +98,24 @@ module _ (meta : Meta) where
   inside_by : (n l : ℕ) (xs ys : List Draft) → ((m c : ℕ) → IsAt n xs m c → IsAt l ys m c) → (r : Draft) → Inside meta n xs r → Inside meta l ys r
   inside_by n l xs ys f r h = record { parent = h.parent; class = h.class; within = h.within; at = f h.parent.row h.class h.at; has = h.has; takes = h.takes }
 
-  placed_by : (n l : ℕ) (xs ys : List Draft) (P Q : Draft → Type 0) → ((m c : ℕ) → IsAt n xs m c → IsAt l ys m c) → ((r : Draft) → P r → Q r ⊎ Inside meta l ys r) → (r : Draft) → Placed meta n xs P r → Placed meta l ys Q r
+  placed_by : (n l : ℕ) (xs ys : List Draft) (P Q : Draft → Type 0) → ((m c : ℕ) → IsAt n xs m c → IsAt l ys m c)
+      → ((r : Draft) → P r → Q r ⊎ Inside meta l ys r) → (r : Draft) → Placed meta n xs P r → Placed meta l ys Q r
   placed_by n l xs ys P Q f g r h = (h.0, elim h.1 [ inl top ↦ g r top | inr inside ↦ inr (inside_by n l xs ys f r inside) ])
 
   -- rows after others
-  all_append : (n : ℕ) (P Q R : Draft → Type 0) (xs ys : List Draft) → ((r : Draft) → P r → R r) → ((r : Draft) → Q r → R r) → AllByRecursion (Placed meta n xs P) xs → AllByRecursion (Placed meta (n + length xs) ys Q) ys
+  all_append : (n : ℕ) (P Q R : Draft → Type 0) (xs ys : List Draft) → ((r : Draft) → P r → R r) → ((r : Draft) → Q r → R r)
+      → AllByRecursion (Placed meta n xs P) xs → AllByRecursion (Placed meta (n + length xs) ys Q) ys
       → AllByRecursion (Placed meta n (xs ++ ys) R) (xs ++ ys)
   all_append n P Q R xs ys f g h k =
       every_append (Placed meta n (xs ++ ys) R) xs ys
       (every_map (Placed meta n xs P) (Placed meta n (xs ++ ys) R) (placed_by n n xs (xs ++ ys) P R (at_left n xs ys) (λ r p. inl (f r p))) xs h)
-      (every_map (Placed meta (n + length xs) ys Q) (Placed meta n (xs ++ ys) R) (placed_by (n + length xs) n ys (xs ++ ys) Q R (at_right n xs ys) (λ r p. inl (g r p))) ys k)
+      (every_map (Placed meta (n + length xs) ys Q) (Placed meta n (xs ++ ys) R)
+      (placed_by (n + length xs) n ys (xs ++ ys) Q R (at_right n xs ys) (λ r p. inl (g r p))) ys k)
 
-  held_here : (c own f target : ℕ) (opposite : Option ℕ) (r : Draft) → has_feature meta c f ≡ true → kind_of meta f ≡ Contains target opposite → OnTop meta (Some (record { row = own; feature = f })) (Some target) r → Within meta c own r
-  held_here c own f target opposite r has kind top = record { feature = f; parent = top.parent; has = has; takes = subst (λ (k : Kind). contains_to meta k r.class ≡ true) (sym kind) top.may }
+  held_here : (c own f target : ℕ) (opposite : Option ℕ) (r : Draft) → has_feature meta c f ≡ true → kind_of meta f ≡ Contains target opposite
+      → OnTop meta (Some (record { row = own; feature = f })) (Some target) r → Within meta c own r
+  held_here c own f target opposite r has kind top =
+      record { feature = f; parent = top.parent; has = has; takes = subst (λ (k : Kind). contains_to meta k r.class ≡ true) (sym kind) top.may }
 
   own_here : (n c : ℕ) (r : Draft) (rows : List Draft) (s : Draft) → r.class ≡ c → Within meta c n s → Inside meta n (r ∷ rows) s
   own_here n c r rows s is h = record {
@@ -128,17 +133,20 @@ module _ (meta : Meta) where
   pub kept : Kept meta (Rows meta) (Keys meta)
   kept = record {
     none = λ n p t. record { each = tt };
-    more = λ n p t k l xs ys before h g. record { each = all_append n (OnTop meta p t) (OnTop meta p t) (OnTop meta p t) xs ys (λ r a. a) (λ r a. a) h.each g.each };
+    more = λ n p t k l xs ys before h g.
+        record { each = all_append n (OnTop meta p t) (OnTop meta p t) (OnTop meta p t) xs ys (λ r a. a) (λ r a. a) h.each g.each };
     begins = λ c own. record { attrs = tt; each = tt };
     bare = λ c own last k part one above so plain.
         record {
           attrs = every_append _ part.attrs one.attrs so.attrs plain.attrs;
-          each = subst (λ (rows : List Draft). AllByRecursion (Placed meta (suc own) rows (Within meta c own)) rows) (sym (ap (λ (rs : List Draft). part.rows ++ rs) plain.none ∙ append-nil part.rows)) so.each;
+          each = subst (λ (rows : List Draft). AllByRecursion (Placed meta (suc own) rows (Within meta c own)) rows)
+              (sym (ap (λ (rs : List Draft). part.rows ++ rs) plain.none ∙ append-nil part.rows)) so.each;
         };
     holds = λ c own last k part f target opposite count rows above so named kind within held.
         record {
           attrs = subst (AttrsFit meta c) (sym (append-nil part.attrs)) so.attrs;
-          each = all_append (suc own) (Within meta c own) (OnTop meta (Some (record { row = own; feature = f })) (Some target)) (Within meta c own) part.rows rows (λ r a. a)
+          each = all_append (suc own) (Within meta c own) (OnTop meta (Some (record { row = own; feature = f })) (Some target))
+              (Within meta c own) part.rows rows (λ r a. a)
               (λ r a. held_here c own f target opposite r (named_has meta c k f named).0 kind a) so.each held.each;
         };
     own = λ n p t id c last part before concrete may so.
@@ -147,7 +155,8 @@ module _ (meta : Meta) where
           each = (
             (record { concrete = concrete; attrs = so.attrs }, inl (record { parent = refl; may = may })),
             every_map (Placed meta (suc n) part.rows (Within meta c n)) (Placed meta n (r ∷ part.rows) (OnTop meta p t))
-                (placed_by (suc n) n part.rows (r ∷ part.rows) (Within meta c n) (OnTop meta p t) (at_behind n r part.rows) (λ s a. inr (own_here n c r part.rows s refl a)))
+                (placed_by (suc n) n part.rows (r ∷ part.rows) (Within meta c n) (OnTop meta p t) (at_behind n r part.rows)
+                (λ s a. inr (own_here n c r part.rows s refl a)))
                 part.rows so.each,
           );
         };

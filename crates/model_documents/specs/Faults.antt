@@ -1,7 +1,8 @@
 -- The numbers of faults.
 use Rattle.std.specs.Prelude.{ℕ}
 use Rattle.model_documents.specs.declared.fault.ModelFault.{ModelFault}
-use Rattle.model_documents.specs.declared.fault.ModelFault.TheVariants.{NotJson, NoClass, Abstract, NoFeature, BadValue, BadRef, DupId, BadId, Bound, WrongType, Memory}
+use Rattle.model_documents.specs.declared.fault.ModelFault.TheVariants.{NotJson, NoClass, Abstract, NoFeature, BadValue, BadRef, DupId, BadId, Bound}
+use Rattle.model_documents.specs.declared.fault.ModelFault.TheVariants.{WrongType, Memory}
 
 -- the number of a fault in a reply
 abbrev pub fault_number : ModelFault → ℕ

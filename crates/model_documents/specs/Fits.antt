@@ -29,7 +29,8 @@ Follows xs (n ∷ ns) = Follows xs ns ⊎ ((rest : List ℕ) × (xs ≡ n ∷ re
 -- a row of a class stands at the root, or in a containment of its parent's class that takes elements of the class
 abbrev pub StandsFit : Meta → List DocRow → ℕ → Option DocParent → Type 0
 StandsFit meta rows c None = Unit {0}
-StandsFit meta rows c (Some p) = (q : DocRow) × (slice_get rows p.row ≡ Some q) × (has_feature meta q.class p.feature ≡ true) × (contains_to meta (kind_of meta p.feature) c ≡ true)
+StandsFit meta rows c (Some p) =
+    (q : DocRow) × (slice_get rows p.row ≡ Some q) × (has_feature meta q.class p.feature ≡ true) × (contains_to meta (kind_of meta p.feature) c ≡ true)
 
 -- values that an attribute of the class may hold
 abbrev pub AttrFits : Meta → ℕ → DocAttr → Type 0
@@ -69,7 +70,8 @@ pub record DocumentFits (meta : Meta) (rows : List DocRow) : Type 0 where
   pub parents : parents_before 0 rows ≡ true
   pub ids_apart : ids_repeat rows ≡ false
   pub bound : (p : DocParent) → is_within (standing (Some p) rows) (child_upper meta p.feature) ≡ true
-  pub mirrored : (n : ℕ) (r : DocRow) (f : ℕ) (b : ℕ) (d : DocRow) (g : ℕ) → slice_get rows n ≡ Some r → slice_get rows b ≡ Some d → opposite_of meta f ≡ Some g → list_any (nat_eq b) (targets_at f r.refs) ≡ list_any (nat_eq n) (targets_at g d.refs)
+  pub mirrored : (n : ℕ) (r : DocRow) (f : ℕ) (b : ℕ) (d : DocRow) (g : ℕ) → slice_get rows n ≡ Some r → slice_get rows b ≡ Some d
+      → opposite_of meta f ≡ Some g → list_any (nat_eq b) (targets_at f r.refs) ≡ list_any (nat_eq n) (targets_at g d.refs)
 
 -- the elements of each document that is read fit
 abbrev pub DocumentsFit : Type 0

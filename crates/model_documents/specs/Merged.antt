@@ -20,7 +20,8 @@ targets_at g (r ∷ rs) = cond (nat_eq g r.feature) r.targets (targets_at g rs)
 -- those of the elements, the first with the number n, that name a by the feature g, and are not among the targets
 abbrev pub naming : ℕ → ℕ → List ℕ → ℕ → List (List DocRefs) → List ℕ
 naming g a ts n [] = []
-naming g a ts n (refs ∷ given) = cond (list_any (nat_eq a) (targets_at g refs) && not (list_any (nat_eq n) ts)) (n ∷ naming g a ts (suc n) given) (naming g a ts (suc n) given)
+naming g a ts n (refs ∷ given) =
+    cond (list_any (nat_eq a) (targets_at g refs) && not (list_any (nat_eq n) ts)) (n ∷ naming g a ts (suc n) given) (naming g a ts (suc n) given)
 
 -- those that name it by the opposite
 abbrev pub others : Option ℕ → ℕ → List ℕ → List (List DocRefs) → List ℕ

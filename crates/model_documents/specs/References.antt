@@ -1,5 +1,6 @@
 -- The element that a reference finds: by its id, or by the path to it.
-use Rattle.std.specs.Prelude.{ℕ, Bool, true, false, ◌&&◌, ◌==◌, not, cond, List, [], ◌∷◌, ◌^◌, Option, None, Some, Ok, Err, length, codes, nat_eq, nat_lt, option_and_then}
+use Rattle.std.specs.Prelude.{ℕ, Bool, true, false, ◌&&◌, ◌==◌, not, cond, List, [], ◌∷◌, ◌^◌, Option, None, Some, Ok, Err, length, codes, nat_eq}
+use Rattle.std.specs.Prelude.{nat_lt, option_and_then}
 use Rattle.std.specs.List.{filter, list_all, list_any, slice_split}
 use Rattle.std.specs.Char.{is_ascii_digit}
 use Rattle.std.specs.Str.Parse.{digits_value}
@@ -31,7 +32,8 @@ index_of false (Some t) = number_of t
 abbrev pub child_by : Meta → List Draft → ℕ → Option ℕ → Option Name → Option ℕ
 child_by meta rows p None index = None
 child_by meta rows p (Some f) index =
-    cond (is_containment (kind_of meta f)) (option_and_then (child_at rows (Some (record { row = p; feature = f }))) (index_of (is_one (upper_of meta f)) index)) None
+    cond (is_containment (kind_of meta f))
+    (option_and_then (child_at rows (Some (record { row = p; feature = f }))) (index_of (is_one (upper_of meta f)) index)) None
 
 -- the child that the parts of a step name: a feature, and after the dot an index
 abbrev pub child_named : Meta → List Draft → ℕ → List Name → Option ℕ

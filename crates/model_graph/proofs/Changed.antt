@@ -54,7 +54,8 @@ attr_of m e f = get-spread id_order nat_order attr_order by_feature feature_join
 pub row_of : (m : Elements) (a : IdBytes) (f : ℕ) (b : IdBytes) → get (nodes_state m).row (a, f, b) ≡ inner (λ (n : Node). n.out) (get m a) (f, b)
 row_of m a f b = get-spread id_order list_key_order row_order by_target target_joined (λ (n : Node). n.out) m (a, f, b)
 
-pub same_class : (a b : Elements) → ((x : IdBytes) → option_map (λ (n : Node). n.class) (get b x) ≡ option_map (λ (n : Node). n.class) (get a x)) → (nodes_state b).kind ≡ (nodes_state a).kind
+pub same_class : (a b : Elements) → ((x : IdBytes) → option_map (λ (n : Node). n.class) (get b x) ≡ option_map (λ (n : Node). n.class) (get a x))
+    → (nodes_state b).kind ≡ (nodes_state a).kind
 same_class a b h = same id_order _ _ (λ q. class_of b q ∙ h q ∙ sym (class_of a q))
 
 place_read : (o : Option Node) → option_map (λ (n : Node). n.placed.place) o ≡ option_map (λ (p : Placed). p.place) (option_map (λ (n : Node). n.placed) o)
@@ -66,15 +67,19 @@ rank_read None = refl
 rank_read (Some n) = refl
 
 pub same_place : (a b : Elements) → ((x : IdBytes) → placed_at b x ≡ placed_at a x) → (nodes_state b).place ≡ (nodes_state a).place
-same_place a b h = same id_order _ _ (λ q. place_of b q ∙ place_read (get b q) ∙ ap (option_map (λ (p : Placed). p.place)) (h q) ∙ sym (place_read (get a q)) ∙ sym (place_of a q))
+same_place a b h = same id_order _ _
+    (λ q. place_of b q ∙ place_read (get b q) ∙ ap (option_map (λ (p : Placed). p.place)) (h q) ∙ sym (place_read (get a q)) ∙ sym (place_of a q))
 
 pub same_prank : (a b : Elements) → ((x : IdBytes) → placed_at b x ≡ placed_at a x) → (nodes_state b).prank ≡ (nodes_state a).prank
-same_prank a b h = same id_order _ _ (λ q. prank_of b q ∙ rank_read (get b q) ∙ ap (option_map (λ (p : Placed). p.rank)) (h q) ∙ sym (rank_read (get a q)) ∙ sym (prank_of a q))
+same_prank a b h = same id_order _ _
+    (λ q. prank_of b q ∙ rank_read (get b q) ∙ ap (option_map (λ (p : Placed). p.rank)) (h q) ∙ sym (rank_read (get a q)) ∙ sym (prank_of a q))
 
-pub same_attr : (a b : Elements) → ((x : IdBytes) (l : ℕ) → inner (λ (n : Node). n.attrs) (get b x) l ≡ inner (λ (n : Node). n.attrs) (get a x) l) → (nodes_state b).attr ≡ (nodes_state a).attr
+pub same_attr : (a b : Elements) → ((x : IdBytes) (l : ℕ) → inner (λ (n : Node). n.attrs) (get b x) l ≡ inner (λ (n : Node). n.attrs) (get a x) l)
+    → (nodes_state b).attr ≡ (nodes_state a).attr
 same_attr a b h = same attr_order _ _ (λ q. attr_of b q.0 q.1 ∙ h q.0 q.1 ∙ sym (attr_of a q.0 q.1))
 
-pub same_row : (a b : Elements) → ((x : IdBytes) (l : ListKey) → inner (λ (n : Node). n.out) (get b x) l ≡ inner (λ (n : Node). n.out) (get a x) l) → (nodes_state b).row ≡ (nodes_state a).row
+pub same_row : (a b : Elements) → ((x : IdBytes) (l : ListKey) → inner (λ (n : Node). n.out) (get b x) l ≡ inner (λ (n : Node). n.out) (get a x) l)
+    → (nodes_state b).row ≡ (nodes_state a).row
 same_row a b h = same row_order _ _ (λ q. row_of b q.0 q.1 q.2 ∙ h q.0 (q.1, q.2) ∙ sym (row_of a q.0 q.1 q.2))
 
 -- ---- one node changed
@@ -90,20 +95,25 @@ module _ (m : Elements) (e : IdBytes) (o w : Option Node) (is : get m e ≡ o) w
 
   -- what is read of this node is written
   pub hit : {B : Type 0} (F : Option Node → B) (x : IdBytes) → F (get (set m e w) x) ≡ cond (eq_by_cmp id_cmp x e) (F w) (F (get m x))
-  hit F x = ap F (get-set id_order m e w x) ∙ elim (eq_by_cmp id_cmp x e) as (λ b. F (cond b w (get m x)) ≡ cond b (F w) (F (get m x))) [ true ↦ refl | false ↦ refl ]
+  hit F x = ap F (get-set id_order m e w x)
+      ∙ elim (eq_by_cmp id_cmp x e) as (λ b. F (cond b w (get m x)) ≡ cond b (F w) (F (get m x))) [ true ↦ refl | false ↦ refl ]
 
   -- an entry of a part of this node is written
-  pub part_hit : {L X : Type 0} {Q : L → L → Ordering} (part : Node → FinMap Q X) (k : L) (v : Option X) → ((l : L) → inner part w l ≡ cond (eq_by_cmp Q l k) v (inner part o l))
-      → (x : IdBytes) (l : L) → inner part (get (set m e w) x) l ≡ cond (eq_by_cmp id_cmp x e) (cond (eq_by_cmp Q l k) v (inner part (get m x) l)) (inner part (get m x) l)
+  pub part_hit : {L X : Type 0} {Q : L → L → Ordering} (part : Node → FinMap Q X) (k : L) (v : Option X)
+      → ((l : L) → inner part w l ≡ cond (eq_by_cmp Q l k) v (inner part o l))
+      → (x : IdBytes) (l : L)
+      → inner part (get (set m e w) x) l ≡ cond (eq_by_cmp id_cmp x e) (cond (eq_by_cmp Q l k) v (inner part (get m x) l)) (inner part (get m x) l)
   part_hit {Q = Q} part k v h x l =
       ap (λ a. inner part a l) (get-set id_order m e w x)
-      ∙ elim (eq_by_cmp id_cmp x e) as (λ b. eq_by_cmp id_cmp x e ≡ b → inner part (cond b w (get m x)) l ≡ cond b (cond (eq_by_cmp Q l k) v (inner part (get m x) l)) (inner part (get m x) l)) [
+      ∙ elim (eq_by_cmp id_cmp x e) as (λ b. eq_by_cmp id_cmp x e ≡ b
+      → inner part (cond b w (get m x)) l ≡ cond b (cond (eq_by_cmp Q l k) v (inner part (get m x) l)) (inner part (get m x) l)) [
         | true ↦ λ one. h l ∙ ap (cond (eq_by_cmp Q l k) v) (sym (ap (λ z. inner part (get m z) l) (same_key id_order x e one) ∙ ap (λ a. inner part a l) is))
         | false ↦ λ _. refl
       ] refl
 
 -- an attribute written
-pub attr_written : (m : Elements) (e : IdBytes) (n : Node) → get m e ≡ Some n → (f : ℕ) (v : Option (List Value)) → nodes_state (set m e (Some (record n { attrs = set n.attrs f v }))) ≡ record (nodes_state m) { attr = set (nodes_state m).attr (e, f) v }
+pub attr_written : (m : Elements) (e : IdBytes) (n : Node) → get m e ≡ Some n → (f : ℕ) (v : Option (List Value))
+    → nodes_state (set m e (Some (record n { attrs = set n.attrs f v }))) ≡ record (nodes_state m) { attr = set (nodes_state m).attr (e, f) v }
 attr_written m e n is f v =
     let w : Option Node = Some (record n { attrs = set n.attrs f v }) in
     let one = set m e w in
@@ -116,7 +126,8 @@ attr_written m e n is f v =
     λ i. record { kind = kind i; place = place i; prank = prank i; attr = attr i; row = row i }
 
 -- a reference out written
-pub out_written : (m : Elements) (e : IdBytes) (n : Node) → get m e ≡ Some n → (k : ListKey) (v : Option ℕ) → nodes_state (set m e (Some (record n { out = set n.out k v }))) ≡ record (nodes_state m) { row = set (nodes_state m).row (e, k.0, k.1) v }
+pub out_written : (m : Elements) (e : IdBytes) (n : Node) → get m e ≡ Some n → (k : ListKey) (v : Option ℕ)
+    → nodes_state (set m e (Some (record n { out = set n.out k v }))) ≡ record (nodes_state m) { row = set (nodes_state m).row (e, k.0, k.1) v }
 out_written m e n is k v =
     let w : Option Node = Some (record n { out = set n.out k v }) in
     let one = set m e w in
@@ -129,7 +140,9 @@ out_written m e n is k v =
     λ i. record { kind = kind i; place = place i; prank = prank i; attr = attr i; row = row i }
 
 -- where it stands written
-pub placed_written : (m : Elements) (e : IdBytes) (n : Node) → get m e ≡ Some n → (p : Placed) → nodes_state (set m e (Some (record n { placed = p }))) ≡ record (nodes_state m) { place = set (nodes_state m).place e (Some p.place); prank = set (nodes_state m).prank e (Some p.rank) }
+pub placed_written : (m : Elements) (e : IdBytes) (n : Node) → get m e ≡ Some n → (p : Placed)
+    → nodes_state (set m e (Some (record n { placed = p }))) ≡ record
+    (nodes_state m) { place = set (nodes_state m).place e (Some p.place); prank = set (nodes_state m).prank e (Some p.rank) }
 placed_written m e n is p =
     let w : Option Node = Some (record n { placed = p }) in
     let one = set m e w in
@@ -141,7 +154,14 @@ placed_written m e n is p =
     λ i. record { kind = kind i; place = place i; prank = prank i; attr = attr i; row = row i }
 
 -- an element that holds nothing made
-pub made : (m : Elements) (e : IdBytes) (n : Node) → get m e ≡ None → n.attrs ≡ empty → n.out ≡ empty → nodes_state (set m e (Some n)) ≡ record (nodes_state m) { kind = set (nodes_state m).kind e (Some n.class); place = set (nodes_state m).place e (Some n.placed.place); prank = set (nodes_state m).prank e (Some n.placed.rank) }
+pub made : (m : Elements) (e : IdBytes) (n : Node) → get m e ≡ None → n.attrs ≡ empty → n.out ≡ empty
+    → nodes_state (set m e (Some n)) ≡ record
+    (nodes_state m) {
+      kind = set (nodes_state m).kind e (Some n.class);
+      place = set (nodes_state m).place e (Some n.placed.place);
+      prank =
+          set (nodes_state m).prank e (Some n.placed.rank);
+    }
 made m e n is no_value no_row =
     let w : Option Node = Some n in
     let one = set m e w in
@@ -153,7 +173,10 @@ made m e n is no_value no_row =
     λ i. record { kind = kind i; place = place i; prank = prank i; attr = attr i; row = row i }
 
 -- an element without values and references gone
-pub gone : (m : Elements) (e : IdBytes) → ((f : ℕ) → inner (λ (n : Node). n.attrs) (get m e) f ≡ None) → ((k : ListKey) → inner (λ (n : Node). n.out) (get m e) k ≡ None) → nodes_state (set m e None) ≡ record (nodes_state m) { kind = set (nodes_state m).kind e None; place = set (nodes_state m).place e None; prank = set (nodes_state m).prank e None }
+pub gone : (m : Elements) (e : IdBytes) → ((f : ℕ) → inner (λ (n : Node). n.attrs) (get m e) f ≡ None)
+    → ((k : ListKey) → inner (λ (n : Node). n.out) (get m e) k ≡ None)
+    → nodes_state (set m e None) ≡ record
+    (nodes_state m) { kind = set (nodes_state m).kind e None; place = set (nodes_state m).place e None; prank = set (nodes_state m).prank e None }
 gone m e no_value no_row =
     let one = set m e None in
     let kind = mapped-set id_order (λ (n : Node). n.class) m e None in
@@ -165,11 +188,16 @@ gone m e no_value no_row =
 
 pub state_empty : nodes_state empty ≡ nothing
 state_empty =
-    let kind = same id_order (nodes_state empty).kind empty (λ q. class_of empty q ∙ ap (option_map (λ (n : Node). n.class)) (get-empty id_cmp q) ∙ sym (get-empty id_cmp q)) in
-    let place = same id_order (nodes_state empty).place empty (λ q. place_of empty q ∙ ap (option_map (λ (n : Node). n.placed.place)) (get-empty id_cmp q) ∙ sym (get-empty id_cmp q)) in
-    let prank = same id_order (nodes_state empty).prank empty (λ q. prank_of empty q ∙ ap (option_map (λ (n : Node). n.placed.rank)) (get-empty id_cmp q) ∙ sym (get-empty id_cmp q)) in
-    let attr = same attr_order (nodes_state empty).attr empty (λ q. attr_of empty q.0 q.1 ∙ ap (λ a. inner (λ (n : Node). n.attrs) a q.1) (get-empty id_cmp q.0) ∙ sym (get-empty attr_cmp q)) in
-    let row = same row_order (nodes_state empty).row empty (λ q. row_of empty q.0 q.1 q.2 ∙ ap (λ a. inner (λ (n : Node). n.out) a (q.1, q.2)) (get-empty id_cmp q.0) ∙ sym (get-empty row_cmp q)) in
+    let kind = same id_order (nodes_state empty).kind empty
+    (λ q. class_of empty q ∙ ap (option_map (λ (n : Node). n.class)) (get-empty id_cmp q) ∙ sym (get-empty id_cmp q)) in
+    let place = same id_order (nodes_state empty).place empty
+    (λ q. place_of empty q ∙ ap (option_map (λ (n : Node). n.placed.place)) (get-empty id_cmp q) ∙ sym (get-empty id_cmp q)) in
+    let prank = same id_order (nodes_state empty).prank empty
+    (λ q. prank_of empty q ∙ ap (option_map (λ (n : Node). n.placed.rank)) (get-empty id_cmp q) ∙ sym (get-empty id_cmp q)) in
+    let attr = same attr_order (nodes_state empty).attr empty
+    (λ q. attr_of empty q.0 q.1 ∙ ap (λ a. inner (λ (n : Node). n.attrs) a q.1) (get-empty id_cmp q.0) ∙ sym (get-empty attr_cmp q)) in
+    let row = same row_order (nodes_state empty).row empty
+    (λ q. row_of empty q.0 q.1 q.2 ∙ ap (λ a. inner (λ (n : Node). n.out) a (q.1, q.2)) (get-empty id_cmp q.0) ∙ sym (get-empty row_cmp q)) in
     λ i. record { kind = kind i; place = place i; prank = prank i; attr = attr i; row = row i }
 
 -- ---- elements that are there

@@ -47,7 +47,8 @@ pub no_values : (m : Elements) (e : IdBytes) → bare_part (λ (n : Node). n.att
 no_values m e =
     none_pass attr_order (λ (x : AttrKey × List Value). text_eq e x.0.0) (nodes_state m).attr (bare_part (λ (n : Node). n.attrs) (get m e))
     (λ bare k v is. not_so (text_eq e k.0) (λ same. some_none (get (nodes_state m).attr k) v is
-    (attr_of m k.0 k.1 ∙ ap (λ z. inner (λ (n : Node). n.attrs) (get m z) k.1) (sym (text_equality.exact e k.0 same)) ∙ part_none nat_order (λ (n : Node). n.attrs) (get m e) bare k.1)))
+    (attr_of m k.0 k.1 ∙ ap (λ z. inner (λ (n : Node). n.attrs) (get m z) k.1) (sym (text_equality.exact e k.0 same))
+    ∙ part_none nat_order (λ (n : Node). n.attrs) (get m e) bare k.1)))
     (λ full. let x = part_some nat_order (λ (n : Node). n.attrs) (get m e) full in ((e, x.0), x.1, attr_of m e x.0 ∙ x.2, text_equality.own e))
 
 module _ (m : Elements) (mirror : IsAtBothEnds m) (e : IdBytes) where
@@ -105,11 +106,17 @@ module _ (roots : Ranks) (m : Elements) (housed : IsHoused roots m) (e : IdBytes
   no_children =
       none_pass id_order (λ (x : IdBytes × Place). is_inside e x.1) (nodes_state m).place (bare_part (λ (n : Node). n.inside) (get m e))
       (λ bare x p is. outside bare x p (sym (place_at x) ∙ is))
-      (λ full. let l = part_some list_key_order (λ (n : Node). n.inside) (get m e) full in
-      (l.0.1, Inside e l.0.0, place_at l.0.1 ∙ stands_so (Inside e l.0.0) (placed_at m l.0.1) l.1 (sym (housed (Inside e l.0.0) l.0.1) ∙ l.2), text_equality.own e))
+      (λ full. let l = part_some list_key_order (λ (n : Node). n.inside) (get m e) full in (
+        l.0.1,
+        Inside e l.0.0,
+        place_at l.0.1 ∙ stands_so (Inside e l.0.0) (placed_at m l.0.1) l.1 (sym (housed (Inside e l.0.0) l.0.1) ∙ l.2),
+        text_equality.own e,
+      ))
     where
-      outside : bare_part (λ (n : Node). n.inside) (get m e) ≡ true → (x : IdBytes) (p : Place) → option_map (λ (p : Placed). p.place) (placed_at m x) ≡ Some p → is_inside e p ≡ false
+      outside : bare_part (λ (n : Node). n.inside) (get m e) ≡ true → (x : IdBytes) (p : Place)
+          → option_map (λ (p : Placed). p.place) (placed_at m x) ≡ Some p → is_inside e p ≡ false
       outside bare x Root is = refl
       outside bare x (Inside a f) is = not_so (text_eq e a) (λ same.
           stands_there (Inside a f) (placed_at m x) (Inside a f) is (place_equality.own (Inside a f))
-          (sym (housed (Inside a f) x) ∙ ap (λ z. inner (λ (n : Node). n.inside) (get m z) (f, x)) (sym (text_equality.exact e a same)) ∙ part_none list_key_order (λ (n : Node). n.inside) (get m e) bare (f, x)))
+          (sym (housed (Inside a f) x) ∙ ap (λ z. inner (λ (n : Node). n.inside) (get m z) (f, x)) (sym (text_equality.exact e a same))
+          ∙ part_none list_key_order (λ (n : Node). n.inside) (get m e) bare (f, x)))

@@ -43,7 +43,9 @@ alike_state m n a =
     let row = same_row m n a.out in
     λ i. record { kind = kind i; place = place i; prank = prank i; attr = attr i; row = row i }
 
-pub mirrored_by : (m n : Elements) → IsAtBothEnds m → ((x : IdBytes) (l : AttrKey) → inner (λ (n : Node). n.into) (get n x) l ≡ inner (λ (n : Node). n.into) (get m x) l) → ((x : IdBytes) (l : ListKey) → inner (λ (n : Node). n.out) (get n x) l ≡ inner (λ (n : Node). n.out) (get m x) l) → IsAtBothEnds n
+pub mirrored_by : (m n : Elements) → IsAtBothEnds m
+    → ((x : IdBytes) (l : AttrKey) → inner (λ (n : Node). n.into) (get n x) l ≡ inner (λ (n : Node). n.into) (get m x) l)
+    → ((x : IdBytes) (l : ListKey) → inner (λ (n : Node). n.out) (get n x) l ≡ inner (λ (n : Node). n.out) (get m x) l) → IsAtBothEnds n
 mirrored_by m n mirror into out a b f = into b (a, f) ∙ mirror a b f ∙ sym (out a (f, b))
 
 pub alike_there : (m n : Elements) → Alike m n → (x : IdBytes) → IsSome (get m x) → IsSome (get n x)
@@ -58,7 +60,8 @@ pub alike_place : (m n : Elements) → Alike m n → (p : Place) → IsPlaceTher
 alike_place m n a Root live = tt
 alike_place m n a (Inside x f) live = alike_there m n a x live
 
-alike_rewritten : (m n : Elements) (e : IdBytes) (h : Node → Node) → ((k : Node) → (h k).class ≡ k.class) → ((k : Node) → (h k).placed ≡ k.placed) → ((k : Node) → (h k).attrs ≡ k.attrs) → ((k : Node) → (h k).out ≡ k.out) → ((k : Node) → (h k).into ≡ k.into) → Rewrites m n e h → Alike m n
+alike_rewritten : (m n : Elements) (e : IdBytes) (h : Node → Node) → ((k : Node) → (h k).class ≡ k.class) → ((k : Node) → (h k).placed ≡ k.placed)
+    → ((k : Node) → (h k).attrs ≡ k.attrs) → ((k : Node) → (h k).out ≡ k.out) → ((k : Node) → (h k).into ≡ k.into) → Rewrites m n e h → Alike m n
 alike_rewritten m n e h class placed attrs out into w =
     let k = w.0 in
     let one = set m e (Some (h k)) in
@@ -71,11 +74,13 @@ alike_rewritten m n e h class placed attrs out into w =
     })
 
 alike_own : (m n : Elements) → n ≡ m → Alike m n
-alike_own m n is = subst (λ x. Alike m x) (sym is) (record { class = λ x. refl; placed = λ x. refl; attrs = λ x l. refl; out = λ x l. refl; into = λ x l. refl })
+alike_own m n is = subst (λ x. Alike m x) (sym is)
+    (record { class = λ x. refl; placed = λ x. refl; attrs = λ x l. refl; out = λ x l. refl; into = λ x l. refl })
 
 pub lists_alike : (p : Place) (e : IdBytes) (v : Option ℕ) (r : Ranks) (m : Elements) (r' : Ranks) (m' : Elements) → IsListWritten p e v r m r' m' → Alike m m'
 lists_alike Root e v r m r' m' w = alike_own m m' w.1
-lists_alike (Inside a f) e v r m r' m' w = alike_rewritten m m' a (λ (n : Node). record n { inside = set n.inside (f, e) v }) (λ k. refl) (λ k. refl) (λ k. refl) (λ k. refl) (λ k. refl) w.1
+lists_alike (Inside a f) e v r m r' m' w =
+    alike_rewritten m m' a (λ (n : Node). record n { inside = set n.inside (f, e) v }) (λ k. refl) (λ k. refl) (λ k. refl) (λ k. refl) (λ k. refl) w.1
 
 -- ---- tests of keys
 pub both_ways : (b c : Bool) → (b ≡ true → c ≡ true) → (c ≡ true → b ≡ true) → b ≡ c
@@ -114,7 +119,8 @@ nested_hit true false z v o = refl
 nested_hit false y z v o = refl
 
 -- ---- one entry of a list written
-pub standing_listed : (p : Place) (e : IdBytes) (v : Option ℕ) (r : Ranks) (m : Elements) (r' : Ranks) (m' : Elements) → IsListWritten p e v r m r' m' → (q : Place) (x : IdBytes)
+pub standing_listed : (p : Place) (e : IdBytes) (v : Option ℕ) (r : Ranks) (m : Elements) (r' : Ranks) (m' : Elements) → IsListWritten p e v r m r' m'
+    → (q : Place) (x : IdBytes)
     → standing r' m' q x ≡ cond (place_eq p q) (cond (eq_by_cmp id_cmp x e) v (standing r m q x)) (standing r m q x)
 standing_listed Root e v r m r' m' w Root x = ap (λ t. get t x) w.0 ∙ get-set id_order r e v x
 standing_listed Root e v r m r' m' w (Inside b g) x = ap (λ t. inner (λ (n : Node). n.inside) (get t b) (g, x)) w.1
@@ -141,11 +147,14 @@ rehoused r m r' m' e w housed placed here there p x =
     (λ differ. there p x differ ∙ housed p x ∙ ap (stood p) (sym (placed x ∙ ap (λ b. cond b w (placed_at m x)) differ)))
 
 -- the lists stay where what stands inside the one element stays
-pub standing_kept : (r : Ranks) (m : Elements) (e : IdBytes) (o w : Option Node) → get m e ≡ o → ((l : ListKey) → inner (λ (n : Node). n.inside) w l ≡ inner (λ (n : Node). n.inside) o l) → (p : Place) (x : IdBytes) → standing r (set m e w) p x ≡ standing r m p x
+pub standing_kept : (r : Ranks) (m : Elements) (e : IdBytes) (o w : Option Node) → get m e ≡ o
+    → ((l : ListKey) → inner (λ (n : Node). n.inside) w l ≡ inner (λ (n : Node). n.inside) o l) → (p : Place) (x : IdBytes)
+    → standing r (set m e w) p x ≡ standing r m p x
 standing_kept r m e o w is alike Root x = refl
 standing_kept r m e o w is alike (Inside a f) x = kept m e o w is (λ t. inner (λ (n : Node). n.inside) t (f, x)) (alike (f, x)) a
 
-pub housed_by : (r : Ranks) (m m' : Elements) → IsHoused r m → ((x : IdBytes) → placed_at m' x ≡ placed_at m x) → ((p : Place) (x : IdBytes) → standing r m' p x ≡ standing r m p x) → IsHoused r m'
+pub housed_by : (r : Ranks) (m m' : Elements) → IsHoused r m → ((x : IdBytes) → placed_at m' x ≡ placed_at m x)
+    → ((p : Place) (x : IdBytes) → standing r m' p x ≡ standing r m p x) → IsHoused r m'
 housed_by r m m' housed placed stand p x = stand p x ∙ housed p x ∙ ap (stood p) (sym (placed x))
 
 other : {X : Type 0} (b c : Bool) (v o : Option X) → c ≡ false → cond b (cond c v o) o ≡ o
@@ -174,17 +183,21 @@ housed_made r m r' m' e n housed is bare w =
     (λ p x differ. listed p x ∙ other (place_eq place p) (eq_by_cmp id_cmp x e) (Some rank) (standing r one p x) differ ∙ same p x)
 
 -- an element taken out of its list, and gone
-pub housed_gone : (r : Ranks) (m : Elements) (r' : Ranks) (m' : Elements) (e : IdBytes) (n : Node) → IsHoused r m → get m e ≡ Some n → ((f : ℕ) (x : IdBytes) → standing r m (Inside e f) x ≡ None)
+pub housed_gone : (r : Ranks) (m : Elements) (r' : Ranks) (m' : Elements) (e : IdBytes) (n : Node) → IsHoused r m → get m e ≡ Some n
+    → ((f : ℕ) (x : IdBytes) → standing r m (Inside e f) x ≡ None)
     → IsListWritten n.placed.place e None r m r' m' → IsHoused r' (set m' e None)
 housed_gone r m r' m' e n housed is bare w =
     let place = n.placed.place in
     let alike = lists_alike place e None r m r' m' w in
     let listed = standing_listed place e None r m r' m' w in
-    let same = standing_kept r' m' e (get m' e) None refl (λ l. sym (listed (Inside e l.0) l.1 ∙ ap (λ o. cond (place_eq place (Inside e l.0)) (cond (eq_by_cmp id_cmp l.1 e) None o) o) (bare l.0 l.1) ∙ nothing (place_eq place (Inside e l.0)) (eq_by_cmp id_cmp l.1 e))) in
+    let same = standing_kept r' m' e (get m' e) None refl
+    (λ l. sym (listed (Inside e l.0) l.1 ∙ ap (λ o. cond (place_eq place (Inside e l.0)) (cond (eq_by_cmp id_cmp l.1 e) None o) o) (bare l.0 l.1)
+    ∙ nothing (place_eq place (Inside e l.0)) (eq_by_cmp id_cmp l.1 e))) in
     rehoused r m r' (set m' e None) e None housed
     (λ x. hit m' e (get m' e) None refl (option_map (λ (n : Node). n.placed)) x ∙ ap (cond (eq_by_cmp id_cmp x e) None) (alike.placed x))
     (λ p. same p e ∙ listed p e ∙ own (place_eq place p) (eq_by_cmp id_cmp e e) None (standing r m p e) (own_key id_order e)
-    ∙ ap (cond (place_eq place p) None) (housed p e ∙ ap (λ o. stood p (option_map (λ (n : Node). n.placed) o)) is ∙ ap (λ b. cond b (Some n.placed.rank) None) (place_turned p place))
+    ∙ ap (cond (place_eq place p) None)
+    (housed p e ∙ ap (λ o. stood p (option_map (λ (n : Node). n.placed) o)) is ∙ ap (λ b. cond b (Some n.placed.rank) None) (place_turned p place))
     ∙ left (place_eq place p) (Some n.placed.rank))
     (λ p x differ. same p x ∙ listed p x ∙ other (place_eq place p) (eq_by_cmp id_cmp x e) None (standing r m p x) differ)
   where
@@ -198,8 +211,10 @@ housed_gone r m r' m' e n housed is bare w =
     left false o = refl
 
 -- an element that gets another rank in its list
-pub housed_reranked : (r : Ranks) (m : Elements) (r' : Ranks) (m' : Elements) (e : IdBytes) (n k : Node) (rank : ℕ) → IsHoused r m → get m e ≡ Some n → get m' e ≡ Some k
-    → IsListWritten n.placed.place e (Some rank) r m r' m' → IsHoused r' (set m' e (Some (record k { placed = record { place = n.placed.place; rank = rank } })))
+pub housed_reranked : (r : Ranks) (m : Elements) (r' : Ranks) (m' : Elements) (e : IdBytes) (n k : Node) (rank : ℕ) → IsHoused r m → get m e ≡ Some n
+    → get m' e ≡ Some k
+    → IsListWritten n.placed.place e (Some rank) r m r' m'
+    → IsHoused r' (set m' e (Some (record k { placed = record { place = n.placed.place; rank = rank } })))
 housed_reranked r m r' m' e n k rank housed is now w =
     let place = n.placed.place in
     let p' : Placed = record { place = place; rank = rank } in
@@ -210,7 +225,8 @@ housed_reranked r m r' m' e n k rank housed is now w =
     rehoused r m r' (set m' e (Some k')) e (Some p') housed
     (λ x. hit m' e (Some k) (Some k') now (option_map (λ (n : Node). n.placed)) x ∙ ap (cond (eq_by_cmp id_cmp x e) (Some p')) (alike.placed x))
     (λ p. same p e ∙ listed p e ∙ own (place_eq place p) (eq_by_cmp id_cmp e e) (Some rank) (standing r m p e) (own_key id_order e)
-    ∙ ap (cond (place_eq place p) (Some rank)) (housed p e ∙ ap (λ o. stood p (option_map (λ (n : Node). n.placed) o)) is ∙ ap (λ b. cond b (Some n.placed.rank) None) (place_turned p place))
+    ∙ ap (cond (place_eq place p) (Some rank))
+    (housed p e ∙ ap (λ o. stood p (option_map (λ (n : Node). n.placed) o)) is ∙ ap (λ b. cond b (Some n.placed.rank) None) (place_turned p place))
     ∙ left (place_eq place p) (Some n.placed.rank) ∙ ap (λ b. cond b (Some rank) None) (place_turned place p))
     (λ p x differ. same p x ∙ listed p x ∙ other (place_eq place p) (eq_by_cmp id_cmp x e) (Some rank) (standing r m p x) differ)
   where
@@ -219,8 +235,10 @@ housed_reranked r m r' m' e n k rank housed is now w =
     left false o = refl
 
 -- an element that goes from one list to another
-pub housed_moved : (r : Ranks) (m : Elements) (r1 : Ranks) (m1 : Elements) (r2 : Ranks) (m2 : Elements) (e : IdBytes) (n k : Node) (to : Place) (rank : ℕ) → IsHoused r m → get m e ≡ Some n → get m2 e ≡ Some k
-    → place_eq n.placed.place to ≡ false → IsListWritten to e (Some rank) r m r1 m1 → IsListWritten n.placed.place e None r1 m1 r2 m2 → IsHoused r2 (set m2 e (Some (record k { placed = record { place = to; rank = rank } })))
+pub housed_moved : (r : Ranks) (m : Elements) (r1 : Ranks) (m1 : Elements) (r2 : Ranks) (m2 : Elements) (e : IdBytes) (n k : Node) (to : Place)
+    (rank : ℕ) → IsHoused r m → get m e ≡ Some n → get m2 e ≡ Some k
+    → place_eq n.placed.place to ≡ false → IsListWritten to e (Some rank) r m r1 m1 → IsListWritten n.placed.place e None r1 m1 r2 m2
+    → IsHoused r2 (set m2 e (Some (record k { placed = record { place = to; rank = rank } })))
 housed_moved r m r1 m1 r2 m2 e n k to rank housed is now differ w u =
     let from = n.placed.place in
     let p' : Placed = record { place = to; rank = rank } in
@@ -231,12 +249,15 @@ housed_moved r m r1 m1 r2 m2 e n k to rank housed is now differ w u =
     let listed' = standing_listed from e None r1 m1 r2 m2 u in
     let same = standing_kept r2 m2 e (Some k) (Some k') now (λ l. refl) in
     rehoused r m r2 (set m2 e (Some k')) e (Some p') housed
-    (λ x. hit m2 e (Some k) (Some k') now (option_map (λ (n : Node). n.placed)) x ∙ ap (cond (eq_by_cmp id_cmp x e) (Some p')) (alike'.placed x ∙ alike.placed x))
+    (λ x. hit m2 e (Some k) (Some k') now (option_map (λ (n : Node). n.placed)) x
+    ∙ ap (cond (eq_by_cmp id_cmp x e) (Some p')) (alike'.placed x ∙ alike.placed x))
     (λ p. same p e ∙ listed' p e ∙ own (place_eq from p) (eq_by_cmp id_cmp e e) None (standing r1 m1 p e) (own_key id_order e)
     ∙ ap (cond (place_eq from p) None) (listed p e ∙ own (place_eq to p) (eq_by_cmp id_cmp e e) (Some rank) (standing r m p e) (own_key id_order e)
-    ∙ ap (cond (place_eq to p) (Some rank)) (housed p e ∙ ap (λ o. stood p (option_map (λ (n : Node). n.placed) o)) is ∙ ap (λ b. cond b (Some n.placed.rank) None) (place_turned p from)))
+    ∙ ap (cond (place_eq to p) (Some rank))
+    (housed p e ∙ ap (λ o. stood p (option_map (λ (n : Node). n.placed) o)) is ∙ ap (λ b. cond b (Some n.placed.rank) None) (place_turned p from)))
     ∙ left (place_eq from p) (place_eq to p) (Some n.placed.rank) (not_both p) ∙ ap (λ b. cond b (Some rank) None) (place_turned to p))
-    (λ p x apart. same p x ∙ listed' p x ∙ other (place_eq from p) (eq_by_cmp id_cmp x e) None (standing r1 m1 p x) apart ∙ listed p x ∙ other (place_eq to p) (eq_by_cmp id_cmp x e) (Some rank) (standing r m p x) apart)
+    (λ p x apart. same p x ∙ listed' p x ∙ other (place_eq from p) (eq_by_cmp id_cmp x e) None (standing r1 m1 p x) apart ∙ listed p x
+    ∙ other (place_eq to p) (eq_by_cmp id_cmp x e) (Some rank) (standing r m p x) apart)
   where
     left : (b c : Bool) (o : Option ℕ) → (b ≡ true → c ≡ false) → cond b None (cond c (Some rank) (cond b o None)) ≡ cond c (Some rank) None
     left true c o h = ap (λ t. cond t (Some rank) None) (sym (h refl))
@@ -254,7 +275,9 @@ both_hit false true true v o = refl
 both_hit false true false v o = refl
 both_hit false false z v o = refl
 
-module _ (m one two : Elements) (a b : IdBytes) (f : ℕ) (v : Option ℕ) (into : Rewrites m one b (λ (n : Node). record n { into = set n.into (a, f) v })) (out : Rewrites one two a (λ (n : Node). record n { out = set n.out (f, b) v })) where
+module _ (m one two : Elements) (a b : IdBytes) (f : ℕ) (v : Option ℕ)
+    (into : Rewrites m one b (λ (n : Node). record n { into = set n.into (a, f) v }))
+    (out : Rewrites one two a (λ (n : Node). record n { out = set n.out (f, b) v })) where
   pub mirrored_set : IsAtBothEnds m → IsAtBothEnds two
   mirrored_set mirror p q g =
       let k = into.0 in
@@ -262,10 +285,14 @@ module _ (m one two : Elements) (a b : IdBytes) (f : ℕ) (v : Option ℕ) (into
       let n = out.0 in
       let n' : Node = record n { out = set n.out (f, b) v } in
       let o = inner (λ (n : Node). n.out) (get m p) (g, q) in
-      let into_now = ap (λ t. inner (λ (n : Node). n.into) (get t q) (p, g)) out.2 ∙ kept one a (Some n) (Some n') out.1 (λ t. inner (λ (n : Node). n.into) t (p, g)) refl q in
-      let into_was = ap (λ t. inner (λ (n : Node). n.into) (get t q) (p, g)) into.2 ∙ part_hit m b (Some k) (Some k') into.1 (λ (n : Node). n.into) (a, f) v (λ l. get-set attr_order k.into (a, f) v l) q (p, g) in
-      let out_now = ap (λ t. inner (λ (n : Node). n.out) (get t p) (g, q)) out.2 ∙ part_hit one a (Some n) (Some n') out.1 (λ (n : Node). n.out) (f, b) v (λ l. get-set list_key_order n.out (f, b) v l) p (g, q) in
-      let out_was = ap (λ t. inner (λ (n : Node). n.out) (get t p) (g, q)) into.2 ∙ kept m b (Some k) (Some k') into.1 (λ t. inner (λ (n : Node). n.out) t (g, q)) refl p in
+      let into_now = ap (λ t. inner (λ (n : Node). n.into) (get t q) (p, g)) out.2
+      ∙ kept one a (Some n) (Some n') out.1 (λ t. inner (λ (n : Node). n.into) t (p, g)) refl q in
+      let into_was = ap (λ t. inner (λ (n : Node). n.into) (get t q) (p, g)) into.2
+      ∙ part_hit m b (Some k) (Some k') into.1 (λ (n : Node). n.into) (a, f) v (λ l. get-set attr_order k.into (a, f) v l) q (p, g) in
+      let out_now = ap (λ t. inner (λ (n : Node). n.out) (get t p) (g, q)) out.2
+      ∙ part_hit one a (Some n) (Some n') out.1 (λ (n : Node). n.out) (f, b) v (λ l. get-set list_key_order n.out (f, b) v l) p (g, q) in
+      let out_was = ap (λ t. inner (λ (n : Node). n.out) (get t p) (g, q)) into.2
+      ∙ kept m b (Some k) (Some k') into.1 (λ t. inner (λ (n : Node). n.out) t (g, q)) refl p in
       into_now ∙ into_was
       ∙ ap (λ t. cond (eq_by_cmp id_cmp q b) (cond (eq_by_cmp attr_cmp (p, g) (a, f)) v t) t) (mirror p q g)
       ∙ ap (λ t. cond (eq_by_cmp id_cmp q b) (cond t v o) o) (attr_ties p a g f)

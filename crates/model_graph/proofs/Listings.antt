@@ -59,7 +59,9 @@ module _ (row : FinMap row_cmp ℕ) (g : Ranks) (a : IdBytes) (f : ℕ) (is : (b
   entries_held =
       entries-part row_order id_order (λ (e : RowKey × ℕ). is_of a f e.0) (λ (e : RowKey × ℕ). (e.0.2, e.1)) (λ b. (a, f, b))
       (λ e d he hd less.
-      sym (λ i. ordering_then (ordering_then (like id_order.total (sym (first_is e.0 he) ∙ first_is d.0 hd) i) (like nat_order.total (sym (second_is e.0 he) ∙ second_is d.0 hd) i)) (id_cmp e.0.2 d.0.2)) ∙ less)
+      sym (λ i. ordering_then
+      (ordering_then (like id_order.total (sym (first_is e.0 he) ∙ first_is d.0 hd) i)
+      (like nat_order.total (sym (second_is e.0 he) ∙ second_is d.0 hd) i)) (id_cmp e.0.2 d.0.2)) ∙ less)
       (λ e he i. (first_is e.0 he i, second_is e.0 he i, e.0.2))
       (λ b x _. refl)
       row g
@@ -73,7 +75,8 @@ module _ (row : FinMap row_cmp ℕ) (g : Ranks) (a : IdBytes) (f : ℕ) (is : (b
       whole b (Some r) = ap (λ c. cond c (Some r) None) (sym own)
 
   pub targets_are : in_order entry_cmp (map ranked_entry (entries g)) ≡ targets row a f
-  targets_are = ap (λ es. in_order entry_cmp (map ranked_entry es)) entries_held ∙ ap (in_order entry_cmp) (map_map ranked_entry (λ (e : RowKey × ℕ). (e.0.2, e.1)) (filter (λ (e : RowKey × ℕ). is_of a f e.0) (entries row)))
+  targets_are = ap (λ es. in_order entry_cmp (map ranked_entry es)) entries_held
+      ∙ ap (in_order entry_cmp) (map_map ranked_entry (λ (e : RowKey × ℕ). (e.0.2, e.1)) (filter (λ (e : RowKey × ℕ). is_of a f e.0) (entries row)))
 
   pub targets_count : length (entries g) ≡ count (λ (e : RowKey × ℕ). is_of a f e.0) row
   targets_count = ap length entries_held ∙ tally_part (λ (e : RowKey × ℕ). is_of a f e.0) (λ (e : RowKey × ℕ). (e.0.2, e.1)) (entries row)
@@ -93,11 +96,13 @@ module _ (place : FinMap id_cmp Place) (prank : FinMap id_cmp ℕ) (placed : IdB
     (is : (l : IdBytes) → get g l ≡ stood p (placed l)) where
   entries_stood : entries g ≡ map (at_rank prank) (filter (λ (e : IdBytes × Place). place_eq p e.1) (entries place))
   entries_stood =
-      entries-part id_order id_order (λ (e : IdBytes × Place). place_eq p e.1) (at_rank prank) (λ k. k) (λ e d _ _ less. less) (λ e _. refl) (λ l x _. refl) place g
+      entries-part id_order id_order (λ (e : IdBytes × Place). place_eq p e.1) (at_rank prank) (λ k. k) (λ e d _ _ less. less) (λ e _. refl)
+      (λ l x _. refl) place g
       (λ l. is l ∙ stood_part p prank l (placed l) (ranks l) ∙ ap (part (λ (e : IdBytes × Place). place_eq p e.1) (at_rank prank) (λ k. k) l) (sym (places l)))
 
   pub children_are : in_order entry_cmp (map ranked_entry (entries g)) ≡ children place prank p
-  children_are = ap (λ es. in_order entry_cmp (map ranked_entry es)) entries_stood ∙ ap (in_order entry_cmp) (map_map ranked_entry (at_rank prank) (filter (λ (e : IdBytes × Place). place_eq p e.1) (entries place)))
+  children_are = ap (λ es. in_order entry_cmp (map ranked_entry es)) entries_stood
+      ∙ ap (in_order entry_cmp) (map_map ranked_entry (at_rank prank) (filter (λ (e : IdBytes × Place). place_eq p e.1) (entries place)))
 
   pub children_count : length (entries g) ≡ count (λ (e : IdBytes × Place). place_eq p e.1) place
   children_count = ap length entries_stood ∙ tally_part (λ (e : IdBytes × Place). place_eq p e.1) (at_rank prank) (entries place)
@@ -122,7 +127,8 @@ module _ (row : FinMap row_cmp ℕ) (g : Sources) (b : IdBytes) (is : (a : IdByt
   entries_arrived =
       entries-part row_order attr_order (ends_at b) source_of (λ (l : AttrKey). (l.0, l.1, b))
       (λ e d he hd less.
-      sym (then_equal _) ∙ ap (ordering_then (ordering_then (id_cmp e.0.0 d.0.0) (nat_cmp e.0.1 d.0.1))) (sym (like id_order.total (sym (target_is e he) ∙ target_is d hd))) ∙ less)
+      sym (then_equal _) ∙ ap (ordering_then (ordering_then (id_cmp e.0.0 d.0.0) (nat_cmp e.0.1 d.0.1)))
+      (sym (like id_order.total (sym (target_is e he) ∙ target_is d hd))) ∙ less)
       (λ e he i. (e.0.0, e.0.1, target_is e he i))
       (λ l x _. refl)
       row g
@@ -142,7 +148,10 @@ all_kept (x ∷ xs) = ap (λ ys. x ∷ ys) (all_kept xs)
 
 pub keys_mapped : {K N X : Type 0} {R : K → K → Ordering} (o : IsKeyOrder R) (h : N → X) (m : FinMap R N) → keys (mapped h m) ≡ keys m
 keys_mapped {K = K} {N = N} {X = X} o h m =
-    let whole : (l : K) (w : Option N) → option_map h w ≡ part (λ (e : K × N). true) (λ (e : K × N). (e.0, h e.1)) (λ k. k) l w = (λ l w. elim w as (λ w. option_map h w ≡ part (λ (e : K × N). true) (λ (e : K × N). (e.0, h e.1)) (λ k. k) l w) [ None ↦ refl | Some n ↦ refl ]) in
+    let whole : (l : K) (w : Option N)
+    → option_map h w ≡ part (λ (e : K × N). true) (λ (e : K × N). (e.0, h e.1)) (λ k. k) l w =
+    (λ l w. elim w as (λ w.
+    option_map h w ≡ part (λ (e : K × N). true) (λ (e : K × N). (e.0, h e.1)) (λ k. k) l w) [ None ↦ refl | Some n ↦ refl ]) in
     ap (map {B = K} (λ (e : K × X). e.0)) (
     entries-part o o (λ (e : K × N). true) (λ (e : K × N). (e.0, h e.1)) (λ k. k) (λ e d _ _ less. less) (λ e _. refl) (λ l x _. refl) m (mapped h m)
     (λ l. get-mapped o h m l ∙ whole l (get m l))

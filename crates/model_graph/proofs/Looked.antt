@@ -29,7 +29,8 @@ module _ (m : Elements) (s : State) (is : nodes_state m ≡ s) where
   pub read_row : (a : IdBytes) (f : ℕ) (b : IdBytes) → inner (λ (n : Node). n.out) (get m a) (f, b) ≡ get s.row (a, f, b)
   read_row a f b = sym (row_of m a f b) ∙ ap (λ (t : State). get t.row (a, f, b)) is
 
-  pub read_into : IsAtBothEnds m → (b : IdBytes) (o : Option Node) → o ≡ get m b → (a : IdBytes) (f : ℕ) → inner (λ (n : Node). n.into) o (a, f) ≡ get s.row (a, f, b)
+  pub read_into : IsAtBothEnds m → (b : IdBytes) (o : Option Node) → o ≡ get m b → (a : IdBytes) (f : ℕ)
+      → inner (λ (n : Node). n.into) o (a, f) ≡ get s.row (a, f, b)
   read_into mirror b o h a f = ap (λ o. inner (λ (n : Node). n.into) o (a, f)) h ∙ mirror a b f ∙ read_row a f b
 
   split_place : (o : Option Node) → option_map (λ (n : Node). n.placed.place) o ≡ option_map (λ (p : Placed). p.place) (option_map (λ (n : Node). n.placed) o)

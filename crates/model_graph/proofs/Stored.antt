@@ -23,7 +23,8 @@ use Rattle.model_graph.specs.Seen.{Elements, nodes_state, IsAtBothEnds, IsHoused
 use Rattle.model_graph.proofs.Changed.{kept, attr_written, placed_written, made, gone, some_is, no_node, live_after}
 use Rattle.model_graph.proofs.Emptied.{no_values, no_rows, no_children, part_none}
 use Rattle.graph_parts.proofs.ListLaws.{list_key_order}
-use Rattle.model_graph.proofs.Housed.{Alike, alike_state, lists_alike, mirrored_by, housed_by, housed_made, housed_gone, housed_reranked, housed_moved, standing_kept}
+use Rattle.model_graph.proofs.Housed.{Alike, alike_state, lists_alike, mirrored_by, housed_by, housed_made, housed_gone, housed_reranked}
+use Rattle.model_graph.proofs.Housed.{housed_moved, standing_kept}
 use Rattle.model_graph.proofs.Linked.{live_there}
 use Rattle.model_graph.proofs.Looked.{read_class, read_place, read_row, read_into}
 
@@ -53,7 +54,8 @@ housed_place r m e n housed is (Inside a f) same =
     place_own : (p : Place) → place_eq p p ≡ true
     place_own p = place_equality.own p
 
-pub stands_at : (m : Elements) (s : State) (e : IdBytes) (n : Node) (p : Place) → nodes_state m ≡ s → get m e ≡ Some n → get s.place e ≡ Some p → n.placed.place ≡ p
+pub stands_at : (m : Elements) (s : State) (e : IdBytes) (n : Node) (p : Place) → nodes_state m ≡ s → get m e ≡ Some n → get s.place e ≡ Some p
+    → n.placed.place ≡ p
 stands_at m s e n p is at stands = one_place n.placed.place p (read_place m s is e (Some n) (sym at) ∙ stands)
   where
     one_place : (p q : Place) → Some p ≡ Some q → p ≡ q
@@ -71,7 +73,8 @@ module _ (r : Ranks) (m : Elements) (r' : Ranks) (m' : Elements) (s : State) (e 
   alike = lists_alike p e None r m r' m' w
 
   bare_values : (f : ℕ) → inner (λ (n : Node). n.attrs) (get m' e) f ≡ None
-  bare_values f = alike.attrs e f ∙ part_none nat_order (λ (n : Node). n.attrs) (get m e) (no_values m e ∙ ap (λ (t : State). nat_eq (value_count t e) 0) view ∙ no_value) f
+  bare_values f = alike.attrs e f
+      ∙ part_none nat_order (λ (n : Node). n.attrs) (get m e) (no_values m e ∙ ap (λ (t : State). nat_eq (value_count t e) 0) view ∙ no_value) f
 
   both_bare : bare_part (λ (n : Node). n.out) (get m e) && bare_part (λ (n : Node). n.into) (get m e) ≡ true
   both_bare = no_rows m agree.0 e ∙ ap (λ (t : State). nat_eq (link_count t e) 0) view ∙ no_row
@@ -95,7 +98,8 @@ module _ (r : Ranks) (m : Elements) (r' : Ranks) (m' : Elements) (s : State) (e 
             (λ x l. kept m' e (get m' e) None refl (λ o. inner (λ (n : Node). n.into) o l) (sym (bare_into l)) x)
             (λ x l. kept m' e (get m' e) None refl (λ o. inner (λ (n : Node). n.out) o l) (sym (bare_out l)) x),
         housed_gone r m r' m' e n.0 agree.1 n.1
-            (λ f x. part_none list_key_order (λ (n : Node). n.inside) (get m e) (no_children r m agree.1 e ∙ ap (λ (t : State). nat_eq (inner_count t e) 0) view ∙ no_child) (f, x))
+            (λ f x. part_none list_key_order (λ (n : Node). n.inside) (get m e)
+            (no_children r m agree.1 e ∙ ap (λ (t : State). nat_eq (inner_count t e) 0) view ∙ no_child) (f, x))
             (subst (λ q. IsListWritten q e None r m r' m') (sym same) w),
       )
 
@@ -110,10 +114,20 @@ module _ (r : Ranks) (m : Elements) (r' : Ranks) (m' : Elements) (s : State) (e 
   abbrev alike_made : Alike (set m e (Some n)) m'
   alike_made = lists_alike n.placed.place e (Some n.placed.rank) r (set m e (Some n)) r' m' w
 
-  pub made_state : nodes_state m' ≡ record s { kind = set s.kind e (Some n.class); place = set s.place e (Some n.placed.place); prank = set s.prank e (Some n.placed.rank) }
+  pub made_state : nodes_state m' ≡ record s {
+    kind = set s.kind e (Some n.class);
+    place = set s.place e (Some n.placed.place);
+    prank =
+        set s.prank e (Some n.placed.rank);
+  }
   made_state =
       alike_state (set m e (Some n)) m' alike_made ∙ made m e n none_yet no_value no_out
-      ∙ ap (λ (t : State). record t { kind = set t.kind e (Some n.class); place = set t.place e (Some n.placed.place); prank = set t.prank e (Some n.placed.rank) }) view
+      ∙ ap (λ (t : State). record t {
+        kind = set t.kind e (Some n.class);
+        place = set t.place e (Some n.placed.place);
+        prank =
+            set t.prank e (Some n.placed.rank);
+      }) view
 
   pub made_kept : AreKept r' m'
   made_kept = (
@@ -143,7 +157,8 @@ module _ (r : Ranks) (m m' : Elements) (s : State) (e : IdBytes) (f : ℕ) (v : 
       )
 
 -- ---- an element moved to another place
-module _ (r : Ranks) (m : Elements) (r1 : Ranks) (m1 : Elements) (r2 : Ranks) (m2 m3 : Elements) (s : State) (e : IdBytes) (n : Node) (from to : Place) (rank : ℕ)
+module _ (r : Ranks) (m : Elements) (r1 : Ranks) (m1 : Elements) (r2 : Ranks) (m2 m3 : Elements) (s : State) (e : IdBytes) (n : Node)
+    (from to : Place) (rank : ℕ)
     (view : nodes_state m ≡ s) (is : get m e ≡ Some n) (same : n.placed.place ≡ from)
     (w : IsListWritten to e (Some rank) r m r1 m1) (u : IsListWritten from e None r1 m1 r2 m2)
     (t : Rewrites m2 m3 e (λ (k : Node). record k { placed = record { place = to; rank = rank } })) where
@@ -160,10 +175,12 @@ module _ (r : Ranks) (m : Elements) (r1 : Ranks) (m1 : Elements) (r2 : Ranks) (m
       let k = t.0 in
       let k' : Node = record k { placed = record { place = to; rank = rank } } in
       subst (λ (x : Elements). AreKept r2 x) (sym t.2) (
-        mirrored_by m2 (set m2 e (Some k')) (alike_kept m1 m2 (lists_alike from e None r1 m1 r2 m2 u) (alike_kept m m1 (lists_alike to e (Some rank) r m r1 m1 w) agree.0))
+        mirrored_by m2 (set m2 e (Some k'))
+            (alike_kept m1 m2 (lists_alike from e None r1 m1 r2 m2 u) (alike_kept m m1 (lists_alike to e (Some rank) r m r1 m1 w) agree.0))
             (λ x l. kept m2 e (Some k) (Some k') t.1 (λ o. inner (λ (n : Node). n.into) o l) refl x)
             (λ x l. kept m2 e (Some k) (Some k') t.1 (λ o. inner (λ (n : Node). n.out) o l) refl x),
-        housed_moved r m r1 m1 r2 m2 e n k to rank agree.1 is t.1 (subst (λ q. place_eq q to ≡ false) (sym same) differ) w (subst (λ q. IsListWritten q e None r1 m1 r2 m2) (sym same) u),
+        housed_moved r m r1 m1 r2 m2 e n k to rank agree.1 is t.1 (subst (λ q. place_eq q to ≡ false) (sym same) differ) w
+            (subst (λ q. IsListWritten q e None r1 m1 r2 m2) (sym same) u),
       )
 
 -- ---- an element that gets another rank where it stands
@@ -174,8 +191,13 @@ module _ (r : Ranks) (m : Elements) (r1 : Ranks) (m1 m2 : Elements) (s : State) 
   pub reranked_state : nodes_state m2 ≡ record s { prank = set s.prank e (Some rank) }
   reranked_state =
       ap nodes_state t.2 ∙ placed_written m1 e t.0 t.1 (record { place = p; rank = rank })
-      ∙ ap (λ (x : State). record x { place = set x.place e (Some p); prank = set x.prank e (Some rank) }) (alike_state m m1 (lists_alike p e (Some rank) r m r1 m1 w) ∙ view)
-      ∙ (λ i. record s { place = set_here id_order s.place e (Some p) (sym (read_place m s view e (Some n) (sym is)) ∙ ap Some same) i; prank = set s.prank e (Some rank) })
+      ∙ ap (λ (x : State). record x { place = set x.place e (Some p); prank = set x.prank e (Some rank) })
+      (alike_state m m1 (lists_alike p e (Some rank) r m r1 m1 w) ∙ view)
+      ∙ (λ i. record s {
+        place = set_here id_order s.place e (Some p) (sym (read_place m s view e (Some n) (sym is)) ∙ ap Some same) i;
+        prank =
+            set s.prank e (Some rank);
+      })
 
   pub reranked_kept : AreKept r m → AreKept r1 m2
   reranked_kept agree =
@@ -207,7 +229,8 @@ source_live m s a b f view there =
     some_out None h = cc
     some_out (Some n) h = refl
 
-pub target_live : (m : Elements) (s : State) (a b : IdBytes) (f : ℕ) → IsAtBothEnds m → nodes_state m ≡ s → is_some (get s.row (a, f, b)) ≡ true → is_live s b ≡ true
+pub target_live : (m : Elements) (s : State) (a b : IdBytes) (f : ℕ) → IsAtBothEnds m → nodes_state m ≡ s → is_some (get s.row (a, f, b)) ≡ true
+    → is_live s b ≡ true
 target_live m s a b f mirror view there =
     ap is_some (sym (read_class m s view b (get m b) refl)) ∙ some_into (get m b) (ap is_some (read_into m s view mirror b (get m b) refl a f) ∙ there)
   where
@@ -216,7 +239,8 @@ target_live m s a b f mirror view there =
     some_into (Some n) h = refl
 
 -- ---- copies of ids and places
-pub made_lists : (n : Node) (e : IdBytes) (p : Place) (rank : ℕ) (id : IdBytes) (r : Ranks) (m one : Elements) (r' : Ranks) (m' : Elements) → id ≡ e → n.placed.place ≡ p → n.placed.rank ≡ rank → one ≡ set m e (Some n)
+pub made_lists : (n : Node) (e : IdBytes) (p : Place) (rank : ℕ) (id : IdBytes) (r : Ranks) (m one : Elements) (r' : Ranks) (m' : Elements) → id ≡ e
+    → n.placed.place ≡ p → n.placed.rank ≡ rank → one ≡ set m e (Some n)
     → IsListWritten p id (Some rank) r one r' m' → IsListWritten n.placed.place e (Some n.placed.rank) r (set m e (Some n)) r' m'
 made_lists n e p rank id r m one r' m' is place ranked first w =
     subst (λ q. IsListWritten q e (Some n.placed.rank) r (set m e (Some n)) r' m') (sym place)
@@ -229,7 +253,8 @@ place_after m one e n Root is live = tt
 place_after m one e n (Inside a f) is live = subst (λ (t : Elements). IsSome (get t a)) (sym is) (live_after m e a n live)
 
 -- the element that stands in a place
-pub stood_node : (m : Elements) (s : State) (e : IdBytes) (p : Place) → nodes_state m ≡ s → get s.place e ≡ Some p → (n : Node) × (get m e ≡ Some n) × (n.placed.place ≡ p)
+pub stood_node : (m : Elements) (s : State) (e : IdBytes) (p : Place) → nodes_state m ≡ s → get s.place e ≡ Some p
+    → (n : Node) × (get m e ≡ Some n) × (n.placed.place ≡ p)
 stood_node m s e p is stands = found (get m e) refl (read_place m s is e (get m e) refl ∙ stands)
   where
     one_place : (p q : Place) → Some p ≡ Some q → p ≡ q

@@ -18,7 +18,9 @@ coded_row = code_by (IdBytes × (ℕ × IdBytes)) (coded× coded_id (coded× cod
 abbrev pub state_code : Coded State
 state_code = code_by
     (FinMap id_cmp ℕ × (FinMap id_cmp Place × (FinMap id_cmp ℕ × (FinMap attr_cmp (List Value) × FinMap row_cmp ℕ))))
-    (coded× (code coded_id coded_ℕ) (coded× (code coded_id place_type.the_row.coded) (coded× (code coded_id coded_ℕ) (coded× (code (coded× coded_id coded_ℕ) (coded_list value_type.the_row.coded)) (code coded_row coded_ℕ)))))
+    (coded× (code coded_id coded_ℕ)
+    (coded× (code coded_id place_type.the_row.coded)
+    (coded× (code coded_id coded_ℕ) (coded× (code (coded× coded_id coded_ℕ) (coded_list value_type.the_row.coded)) (code coded_row coded_ℕ)))))
     (λ s. (s.kind, (s.place, (s.prank, (s.attr, s.row)))))
     (λ p. record { kind = p.0; place = p.1.0; prank = p.1.1.0; attr = p.1.1.1.0; row = p.1.1.1.1 })
     (λ _. refl)

@@ -1,5 +1,6 @@
 -- The first place of a number in a list, as a map has it.
-use Rattle.std.proofs.Common.{◌≡◌, ℕ, suc, ◌+◌, ◌<◌, Bool, true, false, cond, List, [], ◌∷◌, ◌++◌, length, take, get_or, refl, sym, ap, subst, ◌∙◌, ◌&&◌, arith, nat_eq}
+use Rattle.std.proofs.Common.{◌≡◌, ℕ, suc, ◌+◌, ◌<◌, Bool, true, false, cond, List, [], ◌∷◌, ◌++◌, length, take, get_or, refl, sym, ap, subst, ◌∙◌}
+use Rattle.std.proofs.Common.{◌&&◌, arith, nat_eq}
 use Rattle.std.specs.Prelude.{Option, None, Some, is_some}
 use Rattle.std.specs.Option.{option_map}
 use Rattle.std.specs.BTreeMap.{BTreeMap, get, is_at}
@@ -29,13 +30,16 @@ pushed (Some k) b n = refl
 with_last : (q : ℕ) (xs : List ℕ) (y : ℕ) → first_place q (xs ++ y ∷ []) ≡ first_of (first_place q xs) (cond (nat_eq q y) (Some (length xs)) None)
 with_last q [] y = refl
 with_last q (x ∷ xs) y =
-    elim (nat_eq q x) as (λ b. cond b (Some 0) (option_map suc (first_place q (xs ++ y ∷ []))) ≡ first_of (cond b (Some 0) (option_map suc (first_place q xs))) (cond (nat_eq q y) (Some (length (x ∷ xs))) None)) [
+    elim (nat_eq q x) as (λ b.
+    cond b (Some 0) (option_map suc (first_place q (xs ++ y ∷ []))) ≡ first_of (cond b (Some 0) (option_map suc (first_place q xs)))
+    (cond (nat_eq q y) (Some (length (x ∷ xs))) None)) [
       | true ↦ refl
       | false ↦ ap (option_map suc) (with_last q xs y) ∙ pushed (first_place q xs) (nat_eq q y) (length xs)
     ]
 
 -- one more item
-pub first_more : (q : ℕ) (xs : List ℕ) (i : ℕ) → i < length xs → first_place q (take (i + 1) xs) ≡ first_of (first_place q (take i xs)) (cond (nat_eq q (get_or xs i 0)) (Some i) None)
+pub first_more : (q : ℕ) (xs : List ℕ) (i : ℕ) → i < length xs
+    → first_place q (take (i + 1) xs) ≡ first_of (first_place q (take i xs)) (cond (nat_eq q (get_or xs i 0)) (Some i) None)
 first_more q xs i low =
     let long : length (take i xs) ≡ i = omega (arith, length-take i xs, low) in
     ap (first_place q) (take_more xs i 0 low) ∙ with_last q (take i xs) (get_or xs i 0)
@@ -77,17 +81,20 @@ none_first None k false none = refl
 none_first (Some j) k false none = refl
 
 -- the number is there already
-pub entered_before : (m : BTreeMap ℕ ℕ) (n k q : ℕ) → is_some (get nat_cmp m n) ≡ true → get nat_cmp m q ≡ first_of (get nat_cmp m q) (cond (nat_eq q n) (Some k) None)
+pub entered_before : (m : BTreeMap ℕ ℕ) (n k q : ℕ) → is_some (get nat_cmp m n) ≡ true
+    → get nat_cmp m q ≡ first_of (get nat_cmp m q) (cond (nat_eq q n) (Some k) None)
 entered_before m n k q had = some_first (get nat_cmp m q) k (nat_eq q n) (λ same. ap (λ x. is_some (get nat_cmp m x)) (nat_equality.exact q n same) ∙ had)
 
 -- the number is new
-pub entered_now : (m : BTreeMap ℕ ℕ) (n k q : ℕ) (o : Option ℕ) → is_some (get nat_cmp m n) ≡ false → o ≡ cond (is_at (nat_cmp n) q) (Some k) (get nat_cmp m q) → o ≡ first_of (get nat_cmp m q) (cond (nat_eq q n) (Some k) None)
+pub entered_now : (m : BTreeMap ℕ ℕ) (n k q : ℕ) (o : Option ℕ) → is_some (get nat_cmp m n) ≡ false
+    → o ≡ cond (is_at (nat_cmp n) q) (Some k) (get nat_cmp m q) → o ≡ first_of (get nat_cmp m q) (cond (nat_eq q n) (Some k) None)
 entered_now m n k q o none is =
     is ∙ ap (λ b. cond b (Some k) (get nat_cmp m q)) (at_number n q)
     ∙ none_first (get nat_cmp m q) k (nat_eq q n) (λ same. ap (λ x. is_some (get nat_cmp m x)) (nat_equality.exact q n same) ∙ none)
 
 -- ---- a list more
-pub told_more : (rows : List DocRow) (lists more : BTreeMap (ℕ × ℕ) (BTreeMap ℕ ℕ)) (b g : ℕ) (list : BTreeMap ℕ ℕ) → TellAll lists rows → Tells list (targets_at g (refs_at rows b))
+pub told_more : (rows : List DocRow) (lists more : BTreeMap (ℕ × ℕ) (BTreeMap ℕ ℕ)) (b g : ℕ) (list : BTreeMap ℕ ℕ) → TellAll lists rows
+    → Tells list (targets_at g (refs_at rows b))
     → ((q : ℕ × ℕ) → get place_cmp more q ≡ cond (is_at (place_cmp (b, g)) q) (Some list) (get place_cmp lists q)) → TellAll more rows
 told_more rows lists more b g list before tells put c f m is =
     let p : DocParent = record { row = b; feature = g } in

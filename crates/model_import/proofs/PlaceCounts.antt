@@ -34,8 +34,10 @@ up m more parent p q n is before h =
     here : parent_eq p q ≡ true → n ≡ unwrap_or (get place_cmp m (q.row, q.feature)) 0
     here same =
         before ∙ ap (counted m) is
-        ∙ ap (λ x. unwrap_or (get place_cmp m (x, p.feature)) 0) (nat_equality.exact p.row q.row (and_first (nat_eq p.row q.row) (nat_eq p.feature q.feature) same))
-        ∙ ap (λ y. unwrap_or (get place_cmp m (q.row, y)) 0) (nat_equality.exact p.feature q.feature (and_second (nat_eq p.row q.row) (nat_eq p.feature q.feature) same))
+        ∙ ap (λ x. unwrap_or (get place_cmp m (x, p.feature)) 0)
+        (nat_equality.exact p.row q.row (and_first (nat_eq p.row q.row) (nat_eq p.feature q.feature) same))
+        ∙ ap (λ y. unwrap_or (get place_cmp m (q.row, y)) 0)
+        (nat_equality.exact p.feature q.feature (and_second (nat_eq p.row q.row) (nat_eq p.feature q.feature) same))
 
 -- the next row stands in its place too
 standing_more : (rows : List DocRow) (n : ℕ) (r : DocRow) (q : DocParent) → n < length rows → r ≡ get_or rows n r
@@ -43,8 +45,10 @@ standing_more : (rows : List DocRow) (n : ℕ) (r : DocRow) (q : DocParent) → 
 standing_more rows n r q less is = by (option_eq parent_eq r.parent (Some q)) refl
   where
     by : (b : Bool) → option_eq parent_eq r.parent (Some q) ≡ b → standing (Some q) (take (n + 1) rows) ≡ standing (Some q) (take n rows) + cond b 1 0
-    by true h = count_by_more_yes (λ (x : DocRow). option_eq parent_eq x.parent (Some q)) rows n r less (ap (λ (x : DocRow). option_eq parent_eq x.parent (Some q)) (sym is) ∙ h)
-    by false h = count_by_more_no (λ (x : DocRow). option_eq parent_eq x.parent (Some q)) rows n r less (ap (λ (x : DocRow). option_eq parent_eq x.parent (Some q)) (sym is) ∙ h) ∙ nothing (standing (Some q) (take n rows))
+    by true h = count_by_more_yes (λ (x : DocRow). option_eq parent_eq x.parent (Some q)) rows n r less
+        (ap (λ (x : DocRow). option_eq parent_eq x.parent (Some q)) (sym is) ∙ h)
+    by false h = count_by_more_no (λ (x : DocRow). option_eq parent_eq x.parent (Some q)) rows n r less
+        (ap (λ (x : DocRow). option_eq parent_eq x.parent (Some q)) (sym is) ∙ h) ∙ nothing (standing (Some q) (take n rows))
       where
         nothing : (k : ℕ) → k ≡ k + 0
         nothing k = omega arith
@@ -63,7 +67,8 @@ few m rows n (Some p) less counts =
     omega (arith, is, most, length-take n rows)
 
 -- the element is the one that is created next of its place
-pub same_element : (m : BTreeMap (ℕ × ℕ) ℕ) (names : List IdBytes) (rows : List DocRow) (xs : List Entry) (e : IdBytes) (c : ℕ) (parent : Option DocParent) → Counts m rows
+pub same_element : (m : BTreeMap (ℕ × ℕ) ℕ) (names : List IdBytes) (rows : List DocRow) (xs : List Entry) (e : IdBytes) (c : ℕ)
+    (parent : Option DocParent) → Counts m rows
     → element_made xs (place_of names parent) e c (counted m parent) ≡ element_made xs (place_of names parent) e c (standing parent rows)
 same_element m names rows xs e c None counts = refl
 same_element m names rows xs e c (Some p) counts = ap (element_made xs (place_of names (Some p)) e c) (counts p)

@@ -21,7 +21,8 @@ use Rattle.model_state.proofs.StepTests.{passed, pass, value_equality, values_eq
 use Rattle.finite_maps.proofs.Cases.{not_false, not_true}
 
 -- a value that Put may set is one that the attribute may hold
-value_ok : (meta : Meta) (k : Kind) (upper : Option ℕ) (v : Value) → is_attr k ≡ true → attr_fits meta k v ≡ true → not (is_default k v) ≡ true → ValuesOk meta k upper (v ∷ [])
+value_ok : (meta : Meta) (k : Kind) (upper : Option ℕ) (v : Value) → is_attr k ≡ true → attr_fits meta k v ≡ true → not (is_default k v) ≡ true
+    → ValuesOk meta k upper (v ∷ [])
 value_ok meta (Attr scalar default) upper v is fit other = (fit, not_true _ other)
 value_ok meta (AttrMany scalar unique) upper v is fit other = cc
 value_ok meta (Bounded target opposite) upper v is fit other = cc
@@ -30,13 +31,15 @@ value_ok meta (Contains target opposite) upper v is fit other = cc
 value_ok meta (Container target opposite) upper v is fit other = cc
 value_ok meta Skip upper v is fit other = cc
 
-put_ok : (meta : Meta) (c : Option ℕ) (f : ℕ) (new : Option Value) → class_has meta c f ≡ true → is_attr (kind_of meta f) ≡ true → value_fits meta f new ≡ true → not_default meta f new ≡ true → AttrOk meta c f (single new)
+put_ok : (meta : Meta) (c : Option ℕ) (f : ℕ) (new : Option Value) → class_has meta c f ≡ true → is_attr (kind_of meta f) ≡ true
+    → value_fits meta f new ≡ true → not_default meta f new ≡ true → AttrOk meta c f (single new)
 put_ok meta c f None has is fit other = tt
 put_ok meta None f (Some v) has is fit other = cc
 put_ok meta (Some c) f (Some v) has is fit other = (has, value_ok meta (kind_of meta f) _ v is fit other)
 
 module _ (meta : Meta) (m : State) where
-  pub put_undone : (e : IdBytes) (f : ℕ) (old new : Option Value) → Can meta m (Put e f old new) → apply meta (apply meta m (Put e f old new)) (Put e f new old) ≡ m
+  pub put_undone : (e : IdBytes) (f : ℕ) (old new : Option Value) → Can meta m (Put e f old new)
+      → apply meta (apply meta m (Put e f old new)) (Put e f new old) ≡ m
   put_undone e f old new can =
       let p = passed (tests meta m (Put e f old new)) can in
       let was = values_equality.exact _ _ p.1.1.1.1.1.1.1.1.0 in
@@ -62,7 +65,11 @@ module _ (meta : Meta) (m : State) where
                     q.1.1.1.1.0,
                     (
                       q.1.1.1.0,
-                      (subst (λ x. option_eq (list_eq value_eq) x (single new) ≡ true) (sym (get-set_same attr_order m.attr (e, f) (single new))) (values_equality.own (single new)), tt),
+                      (
+                        subst (λ x. option_eq (list_eq value_eq) x (single new) ≡ true) (sym (get-set_same attr_order m.attr (e, f) (single new)))
+                            (values_equality.own (single new)),
+                        tt,
+                      ),
                     ),
                   ),
                 ),
@@ -80,8 +87,10 @@ module _ (meta : Meta) (m : State) where
         attrs = record {
           typed = λ x h.
               by_key attr_order (λ q. AttrOk meta (get m.kind q.0) q.1 (get (set m.attr (e, f) (single new)) q)) (e, f) (x, h)
-              (subst (λ o. AttrOk meta (get m.kind e) f o) (sym (get-set_same attr_order m.attr (e, f) (single new))) (put_ok meta (get m.kind e) f new p.1.0 p.1.1.0 p.1.1.1.1.0 p.1.1.1.1.1.1.1.0))
-              (λ apart. subst (λ o. AttrOk meta (get m.kind x) h o) (sym (get-set_other attr_order m.attr (e, f) (single new) (x, h) apart)) (good.attrs.typed x h));
+              (subst (λ o. AttrOk meta (get m.kind e) f o) (sym (get-set_same attr_order m.attr (e, f) (single new)))
+              (put_ok meta (get m.kind e) f new p.1.0 p.1.1.0 p.1.1.1.1.0 p.1.1.1.1.1.1.1.0))
+              (λ apart. subst (λ o. AttrOk meta (get m.kind x) h o) (sym (get-set_other attr_order m.attr (e, f) (single new) (x, h) apart))
+              (good.attrs.typed x h));
         };
         rows = good.rows;
       }

@@ -42,7 +42,8 @@ no_place meta kind None (Some r) h = absurd h
 no_place meta kind (Some p) r h = absurd h
 
 -- the parent of an element has the feature that it stands in
-pub parent_has : (meta : Meta) (kind : FinMap id_cmp ℕ) (c : Option ℕ) (a : IdBytes) (f : ℕ) (r : Option ℕ) → PlaceOk meta kind c (Some (Inside a f)) r → class_has meta (get kind a) f ≡ true
+pub parent_has : (meta : Meta) (kind : FinMap id_cmp ℕ) (c : Option ℕ) (a : IdBytes) (f : ℕ) (r : Option ℕ)
+    → PlaceOk meta kind c (Some (Inside a f)) r → class_has meta (get kind a) f ≡ true
 parent_has meta kind None a f r h = absurd h
 parent_has meta kind (Some c) a f None h = absurd h
 parent_has meta kind (Some c) a f (Some r) h = h.1.0
@@ -83,7 +84,8 @@ module _ (meta : Meta) (m : State) (good : Good meta m) (e : IdBytes) (dead : ge
   dead_inner q Root is = refl
   dead_inner q (Inside a f) is = not_so _ (λ same.
       let here : a ≡ e = sym (text_equality.exact _ _ same) in
-      let stands : PlaceOk meta m.kind (get m.kind q) (Some (Inside a f)) (get m.prank q) = subst (λ o. PlaceOk meta m.kind (get m.kind q) o (get m.prank q)) is (good.places.stands q) in
+      let stands : PlaceOk meta m.kind (get m.kind q) (Some (Inside a f)) (get m.prank q) =
+      subst (λ o. PlaceOk meta m.kind (get m.kind q) o (get m.prank q)) is (good.places.stands q) in
       let has : class_has meta (get m.kind a) f ≡ true = parent_has meta m.kind (get m.kind q) a f (get m.prank q) stands in
       let none : class_has meta (get m.kind a) f ≡ false = ap (λ x. class_has meta (get m.kind x) f) here ∙ ap (λ k. class_has meta k f) dead in
       cc)
@@ -92,7 +94,8 @@ module _ (meta : Meta) (m : State) (good : Good meta m) (e : IdBytes) (dead : ge
   dead_children = count_none id_order (λ x. is_inside e x.1) m.place (λ q v is. dead_inner q v is)
 
 -- a chain stays where each place on it stays
-pub chain_stays : (place place' : FinMap id_cmp Place) → ((q : IdBytes) (p : Place) → get place q ≡ Some p → get place' q ≡ Some p) → (o : Option Place) (xs : List IdBytes) → IsChain place o xs → IsChain place' o xs
+pub chain_stays : (place place' : FinMap id_cmp Place) → ((q : IdBytes) (p : Place) → get place q ≡ Some p → get place' q ≡ Some p)
+    → (o : Option Place) (xs : List IdBytes) → IsChain place o xs → IsChain place' o xs
 chain_stays place place' stays None xs h = absurd h
 chain_stays place place' stays (Some Root) [] h = tt
 chain_stays place place' stays (Some Root) (x ∷ xs) h = absurd h
@@ -106,11 +109,13 @@ chain_stays place place' stays (Some (Inside a f)) (x ∷ xs) h = (
 )
 
 -- where an element may stand, among classes that were there before
-pub stands_still : (meta : Meta) (kind kind' : FinMap id_cmp ℕ) (c : ℕ) (p : Place) → ((a : IdBytes) (f : ℕ) → p ≡ Inside a f → get kind' a ≡ get kind a) → StandsOk meta kind c p → StandsOk meta kind' c p
+pub stands_still : (meta : Meta) (kind kind' : FinMap id_cmp ℕ) (c : ℕ) (p : Place)
+    → ((a : IdBytes) (f : ℕ) → p ≡ Inside a f → get kind' a ≡ get kind a) → StandsOk meta kind c p → StandsOk meta kind' c p
 stands_still meta kind kind' c Root stays h = tt
 stands_still meta kind kind' c (Inside a f) stays h = (ap (λ k. class_has meta k f) (stays a f refl) ∙ h.0, h.1)
 
-pub places_still : (meta : Meta) (kind kind' : FinMap id_cmp ℕ) (c : Option ℕ) (p : Option Place) (r : Option ℕ) → ((a : IdBytes) (f : ℕ) → p ≡ Some (Inside a f) → get kind' a ≡ get kind a) → PlaceOk meta kind c p r → PlaceOk meta kind' c p r
+pub places_still : (meta : Meta) (kind kind' : FinMap id_cmp ℕ) (c : Option ℕ) (p : Option Place) (r : Option ℕ)
+    → ((a : IdBytes) (f : ℕ) → p ≡ Some (Inside a f) → get kind' a ≡ get kind a) → PlaceOk meta kind c p r → PlaceOk meta kind' c p r
 places_still meta kind kind' None None None stays h = tt
 places_still meta kind kind' None None (Some r) stays h = absurd h
 places_still meta kind kind' None (Some p) r stays h = absurd h
@@ -126,7 +131,8 @@ or_true : (b : Bool) → b || true ≡ true
 or_true true = refl
 or_true false = refl
 
-live_has_place : (meta : Meta) (kind : FinMap id_cmp ℕ) (c : Option ℕ) (o : Option Place) (r : Option ℕ) → is_some c ≡ true → o ≡ None → PlaceOk meta kind c o r → ⊥
+live_has_place : (meta : Meta) (kind : FinMap id_cmp ℕ) (c : Option ℕ) (o : Option Place) (r : Option ℕ) → is_some c ≡ true → o ≡ None
+    → PlaceOk meta kind c o r → ⊥
 live_has_place meta kind None o r live none h = cc
 live_has_place meta kind (Some c) None r live none h = h
 live_has_place meta kind (Some c) (Some p) r live none h = cc
@@ -136,7 +142,9 @@ pub carry : {A B C : Type 0} (P : A → B → C → Type 0) (a a' : A) (b b' : B
 carry P a a' b b' c c' p q r h = subst (λ x. P x b' c') (sym p) (subst (λ y. P a y c') (sym q) (subst (λ z. P a b z) (sym r) h))
 
 -- the place of a live element has a chain
-chain_at : (meta : Meta) (m : State) → Good meta m → (place' : FinMap id_cmp Place) → ((q : IdBytes) (p : Place) → get m.place q ≡ Some p → get place' q ≡ Some p) → (p : Place) → place_live m p ≡ true → (xs : List IdBytes) × IsChain place' (Some p) xs
+chain_at : (meta : Meta) (m : State) → Good meta m → (place' : FinMap id_cmp Place)
+    → ((q : IdBytes) (p : Place) → get m.place q ≡ Some p → get place' q ≡ Some p) → (p : Place) → place_live m p ≡ true
+    → (xs : List IdBytes) × IsChain place' (Some p) xs
 chain_at meta m good place' stays Root live = ([], tt)
 chain_at meta m good place' stays (Inside a f) live =
     elim (get m.place a) as (λ o. get m.place a ≡ o → (xs : List IdBytes) × IsChain place' (Some (Inside a f)) xs) [
@@ -148,7 +156,8 @@ chain_at meta m good place' stays (Inside a f) live =
 
 -- ---- New
 -- what New's tests say of the place, among the classes after it
-new_may : (meta : Meta) (m : State) (kind' : FinMap id_cmp ℕ) (c : ℕ) (p : Place) → ((a : IdBytes) → is_some (get m.kind a) ≡ true → get kind' a ≡ get m.kind a) → may_stand meta m c p ≡ true → StandsOk meta kind' c p
+new_may : (meta : Meta) (m : State) (kind' : FinMap id_cmp ℕ) (c : ℕ) (p : Place)
+    → ((a : IdBytes) → is_some (get m.kind a) ≡ true → get kind' a ≡ get m.kind a) → may_stand meta m c p ≡ true → StandsOk meta kind' c p
 new_may meta m kind' c Root stays h = tt
 new_may meta m kind' c (Inside a f) stays h =
     let has : class_has meta (get m.kind a) f ≡ true = and_first _ _ h in
@@ -189,7 +198,8 @@ module _ (meta : Meta) (m : State) (good : Good meta m) (e : IdBytes) (class : �
       let kind_is : get after.kind e ≡ Some class = get-set_same id_order m.kind e (Some class) in
       let place_is : get after.place e ≡ Some place = get-set_same id_order m.place e (Some place) in
       let rank_is : get after.prank e ≡ Some rank = get-set_same id_order m.prank e (Some rank) in
-      let sum : inner_count after e + counts (λ (x : IdBytes × Place). is_inside e x.1) e (get m.place e) ≡ inner_count m e + counts (λ (x : IdBytes × Place). is_inside e x.1) e (Some place) = count-set id_order (λ x. is_inside e x.1) m.place e (Some place) in
+      let sum : inner_count after e + counts (λ (x : IdBytes × Place). is_inside e x.1) e (get m.place e) ≡ inner_count m e + counts
+      (λ (x : IdBytes × Place). is_inside e x.1) e (Some place) = count-set id_order (λ x. is_inside e x.1) m.place e (Some place) in
       let was : counts (λ (x : IdBytes × Place). is_inside e x.1) e (get m.place e) ≡ 0 = ap (counts (λ (x : IdBytes × Place). is_inside e x.1) e) none.0 in
       let now : counts (λ (x : IdBytes × Place). is_inside e x.1) e (Some place) ≡ 0 = ap (λ b. cond b 1 0) (outside m.kind e place m new_dead p.1.0) in
       let before : inner_count m e ≡ 0 = dead_children meta m good e new_dead in
@@ -235,7 +245,8 @@ module _ (meta : Meta) (m : State) (good : Good meta m) (e : IdBytes) (class : �
             (λ apart. by_key id_order (λ b. RowOk meta (get kind a) f (get kind b) (get m.row (a, f, b))) e b
             (subst (λ o. RowOk meta (get kind a) f (get kind e) o) (sym (dead_to meta m good e new_dead a f)) tt)
             (λ apart'. subst (λ k. RowOk meta k f (get kind b) (get m.row (a, f, b))) (sym (get-set_other id_order m.kind e (Some class) a apart))
-            (subst (λ k. RowOk meta (get m.kind a) f k (get m.row (a, f, b))) (sym (get-set_other id_order m.kind e (Some class) b apart')) (good.rows.typed a f b))));
+            (subst (λ k. RowOk meta (get m.kind a) f k (get m.row (a, f, b))) (sym (get-set_other id_order m.kind e (Some class) b apart'))
+            (good.rows.typed a f b))));
         mirrored = good.rows.mirrored;
         bound = good.rows.bound;
       }
@@ -247,22 +258,31 @@ module _ (meta : Meta) (m : State) (good : Good meta m) (e : IdBytes) (class : �
   new_place_stays q p is = get-set_other id_order m.place e (Some place) q (not_so _ (λ same.
       some_none (get m.place q) p is (ap (λ x. get m.place x) (same_key id_order q e same) ∙ (dead_place meta m good e new_dead).0))) ∙ is
 
-  new_stands : (x : IdBytes) → PlaceOk meta (set m.kind e (Some class)) (get (set m.kind e (Some class)) x) (get (set m.place e (Some place)) x) (get (set m.prank e (Some rank)) x)
+  new_stands : (x : IdBytes)
+      → PlaceOk meta (set m.kind e (Some class)) (get (set m.kind e (Some class)) x) (get (set m.place e (Some place)) x)
+      (get (set m.prank e (Some rank)) x)
   new_stands x =
       let kind' = set m.kind e (Some class) in
       let p = passed (tests meta m (New e class place rank)) can in
       by_key id_order (λ x. PlaceOk meta kind' (get kind' x) (get (set m.place e (Some place)) x) (get (set m.prank e (Some rank)) x)) e x
-      (carry (λ c o r. PlaceOk meta kind' c o r) _ _ _ _ _ _ (get-set_same id_order m.kind e (Some class)) (get-set_same id_order m.place e (Some place)) (get-set_same id_order m.prank e (Some rank))
+      (carry (λ c o r. PlaceOk meta kind' c o r) _ _ _ _ _ _ (get-set_same id_order m.kind e (Some class))
+      (get-set_same id_order m.place e (Some place)) (get-set_same id_order m.prank e (Some rank))
       (p.1.1.0, new_may meta m kind' class place new_stays p.1.1.1.0))
-      (λ apart. carry (λ c o r. PlaceOk meta kind' c o r) _ _ _ _ _ _ (get-set_other id_order m.kind e (Some class) x apart) (get-set_other id_order m.place e (Some place) x apart) (get-set_other id_order m.prank e (Some rank) x apart)
+      (λ apart. carry (λ c o r. PlaceOk meta kind' c o r) _ _ _ _ _ _ (get-set_other id_order m.kind e (Some class) x apart)
+      (get-set_other id_order m.place e (Some place) x apart) (get-set_other id_order m.prank e (Some rank) x apart)
       (places_still meta m.kind kind' (get m.kind x) (get m.place x) (get m.prank x)
-      (λ a f is. new_stays a (has_class meta (get m.kind a) f (parent_has meta m.kind (get m.kind x) a f (get m.prank x) (subst (λ o. PlaceOk meta m.kind (get m.kind x) o (get m.prank x)) is (good.places.stands x)))))
+      (λ a f is. new_stays a
+      (has_class meta (get m.kind a) f
+      (parent_has meta m.kind (get m.kind x) a f (get m.prank x)
+      (subst (λ o. PlaceOk meta m.kind (get m.kind x) o (get m.prank x)) is (good.places.stands x)))))
       (good.places.stands x)))
 
-  new_bound : (a : IdBytes) (f : ℕ) → is_within (count (λ (x : IdBytes × Place). place_eq (Inside a f) x.1) (set m.place e (Some place))) (child_upper meta f) ≡ true
+  new_bound : (a : IdBytes) (f : ℕ)
+      → is_within (count (λ (x : IdBytes × Place). place_eq (Inside a f) x.1) (set m.place e (Some place))) (child_upper meta f) ≡ true
   new_bound a f =
       let p = passed (tests meta m (New e class place rank)) can in
-      one_more id_order (λ (x : IdBytes × Place). place_eq (Inside a f) x.1) m.place e place (child_upper meta f) (dead_place meta m good e new_dead).0 (good.places.bound a f)
+      one_more id_order (λ (x : IdBytes × Place). place_eq (Inside a f) x.1) m.place e place (child_upper meta f)
+      (dead_place meta m good e new_dead).0 (good.places.bound a f)
       (λ same. subst (λ q. has_room meta m q ≡ true) (sym (place_equality.exact (Inside a f) place same)) p.1.1.1.1.0)
 
   new_ends : (x : IdBytes) (p : Place) → get (set m.place e (Some place)) x ≡ Some p → (xs : List IdBytes) × IsChain (set m.place e (Some place)) (Some p) xs
@@ -272,7 +292,8 @@ module _ (meta : Meta) (m : State) (good : Good meta m) (e : IdBytes) (class : �
         | true ↦ λ same.
             let here : get place' x ≡ Some place = ap (λ q. get place' q) (same_key id_order x e same) ∙ get-set_same id_order m.place e (Some place) in
             let it : Some place ≡ Some p = sym here ∙ is in
-            subst (λ o. (xs : List IdBytes) × IsChain place' o xs) it (chain_at meta m good place' new_place_stays place (passed (tests meta m (New e class place rank)) can).1.0)
+            subst (λ o. (xs : List IdBytes) × IsChain place' o xs) it
+            (chain_at meta m good place' new_place_stays place (passed (tests meta m (New e class place rank)) can).1.0)
         | false ↦ λ apart.
             let old = good.places.ends x p (sym (get-set_other id_order m.place e (Some place) x apart) ∙ is) in
             (old.0, chain_stays m.place place' new_place_stays (Some p) old.0 old.1)
@@ -316,12 +337,14 @@ module _ (meta : Meta) (m : State) (good : Good meta m) (e : IdBytes) (class : �
   gone_from : (f : ℕ) (b : IdBytes) → get m.row (e, f, b) ≡ None
   gone_from f b =
       let zero = nat_equality.exact _ _ (passed (tests meta m (Gone e class place rank)) can).1.1.1.1.1.0 in
-      no_value _ (λ v is. true_false (text_eq e e || text_eq e b) (ap (λ x. x || text_eq e b) (text_equality.own e)) (none_counted row_order (λ x. text_eq e x.0.0 || text_eq e x.0.2) m.row zero (e, f, b) v is))
+      no_value _ (λ v is. true_false (text_eq e e || text_eq e b) (ap (λ x. x || text_eq e b) (text_equality.own e))
+      (none_counted row_order (λ x. text_eq e x.0.0 || text_eq e x.0.2) m.row zero (e, f, b) v is))
 
   gone_to : (a : IdBytes) (f : ℕ) → get m.row (a, f, e) ≡ None
   gone_to a f =
       let zero = nat_equality.exact _ _ (passed (tests meta m (Gone e class place rank)) can).1.1.1.1.1.0 in
-      no_value _ (λ v is. true_false (text_eq e a || text_eq e e) (ap (λ x. text_eq e a || x) (text_equality.own e) ∙ or_true (text_eq e a)) (none_counted row_order (λ x. text_eq e x.0.0 || text_eq e x.0.2) m.row zero (a, f, e) v is))
+      no_value _ (λ v is. true_false (text_eq e a || text_eq e e) (ap (λ x. text_eq e a || x) (text_equality.own e) ∙ or_true (text_eq e a))
+      (none_counted row_order (λ x. text_eq e x.0.0 || text_eq e x.0.2) m.row zero (a, f, e) v is))
 
   gone_inner : (q : IdBytes) (p : Place) → get m.place q ≡ Some p → is_inside e p ≡ false
   gone_inner q p is =
@@ -358,8 +381,10 @@ module _ (meta : Meta) (m : State) (good : Good meta m) (e : IdBytes) (class : �
   gone_stands x =
       let kind' = set m.kind e None in
       by_key id_order (λ x. PlaceOk meta kind' (get kind' x) (get (set m.place e None) x) (get (set m.prank e None) x)) e x
-      (carry (λ c o r. PlaceOk meta kind' c o r) None _ None _ None _ (get-set_same id_order m.kind e None) (get-set_same id_order m.place e None) (get-set_same id_order m.prank e None) tt)
-      (λ apart. carry (λ c o r. PlaceOk meta kind' c o r) _ _ _ _ _ _ (get-set_other id_order m.kind e None x apart) (get-set_other id_order m.place e None x apart) (get-set_other id_order m.prank e None x apart)
+      (carry (λ c o r. PlaceOk meta kind' c o r) None _ None _ None _ (get-set_same id_order m.kind e None) (get-set_same id_order m.place e None)
+      (get-set_same id_order m.prank e None) tt)
+      (λ apart. carry (λ c o r. PlaceOk meta kind' c o r) _ _ _ _ _ _ (get-set_other id_order m.kind e None x apart)
+      (get-set_other id_order m.place e None x apart) (get-set_other id_order m.prank e None x apart)
       (places_still meta m.kind kind' (get m.kind x) (get m.place x) (get m.prank x) (λ a f is. gone_stays a f x is) (good.places.stands x)))
 
   -- no chain goes through it
@@ -368,7 +393,8 @@ module _ (meta : Meta) (m : State) (good : Good meta m) (e : IdBytes) (class : �
   gone_chain Root (x ∷ xs) out h = absurd h
   gone_chain (Inside a f) [] out h = absurd h
   gone_chain (Inside a f) (x ∷ xs) out h =
-      let stays : get (set m.place e None) x ≡ get m.place x = get-set_other id_order m.place e None x (other_key e x (subst (λ y. text_eq e y ≡ false) (sym h.0) out)) in (
+      let stays : get (set m.place e None) x ≡ get m.place x =
+      get-set_other id_order m.place e None x (other_key e x (subst (λ y. text_eq e y ≡ false) (sym h.0) out)) in (
         h.0,
         subst (λ o. IsChain (set m.place e None) o xs) (sym stays)
             (elim (get m.place x) as (λ o. get m.place x ≡ o → IsChain m.place o xs → IsChain (set m.place e None) o xs) [
@@ -389,7 +415,12 @@ module _ (meta : Meta) (m : State) (good : Good meta m) (e : IdBytes) (class : �
 
   pub gone_keeps : Good meta (apply meta m (Gone e class place rank))
   gone_keeps = record {
-    places = record { stands = gone_stands; bound = λ a f. one_less id_order (λ x. place_eq (Inside a f) x.1) m.place e (child_upper meta f) (good.places.bound a f); ends = gone_ends };
+    places = record {
+      stands = gone_stands;
+      bound =
+          λ a f. one_less id_order (λ x. place_eq (Inside a f) x.1) m.place e (child_upper meta f) (good.places.bound a f);
+      ends = gone_ends;
+    };
     attrs = gone_attrs;
     rows = gone_rows;
   }
@@ -407,7 +438,9 @@ module _ (meta : Meta) (m : State) (good : Good meta m) (e : IdBytes) (class : �
 
   gone_room : (p : Place) → get m.place e ≡ Some p → has_room meta (apply meta m (Gone e class place rank)) p ≡ true
   gone_room Root is = refl
-  gone_room (Inside a f) is = one_free id_order (λ x. place_eq (Inside a f) x.1) m.place e (Inside a f) (child_upper meta f) is (place_equality.own (Inside a f)) (good.places.bound a f)
+  gone_room (Inside a f) is =
+      one_free id_order (λ x. place_eq (Inside a f) x.1) m.place e (Inside a f) (child_upper meta f) is (place_equality.own (Inside a f))
+      (good.places.bound a f)
 
   pub gone_back : Can meta (apply meta m (Gone e class place rank)) (New e class place rank)
   gone_back =

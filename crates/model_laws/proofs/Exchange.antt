@@ -12,7 +12,8 @@ use Rattle.model_state.specs.Keys.{IdBytes, RowKey}
 use Rattle.model_state.specs.State.{State, Writes, written}
 use Rattle.model_state.specs.Steps.{Can, fault, writes, apply, fold}
 use Rattle.model_state.specs.Good.{Good, Sound}
-use Rattle.model_laws.specs.Cells.{Cell, OfKind, OfPlace, OfRank, OfAttr, OfRow, OfWhole, About, is_bounded, cell_eq, has, stands_in, stands_inside, Agree, AgreeAt, step_writes, step_reads, kinds_written, kinds_read, needs, may_change, needs_all, may_change_all}
+use Rattle.model_laws.specs.Cells.{Cell, OfKind, OfPlace, OfRank, OfAttr, OfRow, OfWhole, About, is_bounded, cell_eq, has, stands_in, stands_inside}
+use Rattle.model_laws.specs.Cells.{Agree, AgreeAt, step_writes, step_reads, kinds_written, kinds_read, needs, may_change, needs_all, may_change_all}
 use Rattle.model_state.proofs.Orders.{id_order, attr_order, row_order}
 use Rattle.model_laws.proofs.Runs.{undoes, fold_more, fold_first, steps_keep_good, same_state}
 
@@ -107,8 +108,11 @@ touched_needed : (meta : Meta) (ss : List Step) (c : Cell) → IsReal c → has 
 touched_needed meta [] c r h = h
 touched_needed meta (s ∷ ss) c r h =
     or_cases (has (may_change meta s) c) (has (may_change_all meta ss) c) (sym (has_append (may_change meta s) (may_change_all meta ss) c) ∙ h)
-    (λ here. or_cases (has (step_writes meta s) c) (has (map About (kinds_read s ++ kinds_written s)) c) (sym (has_append (step_writes meta s) (map About (kinds_read s ++ kinds_written s)) c) ∙ here)
-    (λ w. has_first (needs meta s) (needs_all meta ss) c (has_second (step_reads s) (map About (kinds_written s) ++ step_writes meta s) c (has_second (map About (kinds_written s)) (step_writes meta s) c w)))
+    (λ here. or_cases (has (step_writes meta s) c) (has (map About (kinds_read s ++ kinds_written s)) c)
+    (sym (has_append (step_writes meta s) (map About (kinds_read s ++ kinds_written s)) c) ∙ here)
+    (λ w. has_first (needs meta s) (needs_all meta ss) c
+    (has_second (step_reads s) (map About (kinds_written s) ++ step_writes meta s) c
+    (has_second (map About (kinds_written s)) (step_writes meta s) c w)))
     (λ a. absurd (clash (real_apart c (kinds_read s ++ kinds_written s) r) a)))
     (λ later. has_second (needs meta s) (needs_all meta ss) c (touched_needed meta ss c r later))
   where
@@ -136,10 +140,12 @@ LeavesOthers meta = (m : State) → Good meta m → (s : Step) → Can meta m s 
 
 -- a step goes by what it needs alone
 abbrev pub GoesByNeeds : Meta → Type 0
-GoesByNeeds meta = (m n : State) → Good meta m → Good meta n → (s : Step) → AgreeAt meta m n (needs meta s) → (fault meta m s ≡ fault meta n s) × (writes meta m s ≡ writes meta n s)
+GoesByNeeds meta = (m n : State) → Good meta m → Good meta n → (s : Step) → AgreeAt meta m n (needs meta s)
+    → (fault meta m s ≡ fault meta n s) × (writes meta m s ≡ writes meta n s)
 
 module _ (meta : Meta) (sound : Sound meta) (leaves : LeavesOthers meta) (goes : GoesByNeeds meta) where
-  pub run_leaves : (ss : List Step) (m n : State) → Good meta m → fold meta m ss ≡ Some n → (c : Cell) → has (may_change_all meta ss) c ≡ false → Agree meta m n c
+  pub run_leaves : (ss : List Step) (m n : State) → Good meta m → fold meta m ss ≡ Some n → (c : Cell) → has (may_change_all meta ss) c ≡ false
+      → Agree meta m n c
   run_leaves [] m n good is c out = subst (λ x. Agree meta m x c) (same_state m n is) (agree_self meta m c)
   run_leaves (s ∷ ss) m n good is c out =
       let p = fold_first meta m n s ss is in
@@ -147,14 +153,16 @@ module _ (meta : Meta) (sound : Sound meta) (leaves : LeavesOthers meta) (goes :
       (leaves m good s p.0 c (not_first (may_change meta s) (may_change_all meta ss) c out))
       (run_leaves ss (apply meta m s) n (undoes meta sound m good s p.0).keeps p.1 c (not_second (may_change meta s) (may_change_all meta ss) c out))
 
-  pub run_goes : (ss : List Step) (m n k : State) → Good meta m → Good meta n → AgreeAt meta m n (needs_all meta ss) → fold meta m ss ≡ Some k → (l : State) × (fold meta n ss ≡ Some l) × ((c : Cell) → Agree meta m n c → Agree meta k l c)
+  pub run_goes : (ss : List Step) (m n k : State) → Good meta m → Good meta n → AgreeAt meta m n (needs_all meta ss) → fold meta m ss ≡ Some k
+      → (l : State) × (fold meta n ss ≡ Some l) × ((c : Cell) → Agree meta m n c → Agree meta k l c)
   run_goes [] m n k good goodn alike is = (n, refl, λ c h. subst (λ x. Agree meta x n c) (same_state m k is) h)
   run_goes (s ∷ ss) m n k good goodn alike is =
       let p = fold_first meta m k s ss is in
       let q = goes m n good goodn s (λ c h. alike c (has_first (needs meta s) (needs_all meta ss) c h)) in
       let on : (c : Cell) → Agree meta m n c → Agree meta (apply meta m s) (apply meta n s) c =
       λ c h. subst (λ w. Agree meta (apply meta m s) (written n w) c) q.1 (agree_written meta m n (writes meta m s) c h) in
-      let rest = run_goes ss (apply meta m s) (apply meta n s) k (undoes meta sound m good s p.0).keeps (undoes meta sound n goodn s (sym q.0 ∙ p.0)).keeps (λ c h. on c (alike c (has_second (needs meta s) (needs_all meta ss) c h))) p.1 in
+      let rest = run_goes ss (apply meta m s) (apply meta n s) k (undoes meta sound m good s p.0).keeps
+      (undoes meta sound n goodn s (sym q.0 ∙ p.0)).keeps (λ c h. on c (alike c (has_second (needs meta s) (needs_all meta ss) c h))) p.1 in
       (rest.0, fold_more meta n s ss (sym q.0 ∙ p.0) ∙ rest.1, λ c h. rest.2 c (on c h))
 
   -- two runs, neither of which touches what the other needs, commute

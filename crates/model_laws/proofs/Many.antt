@@ -1,6 +1,7 @@
 -- Ins and Del: each undoes the other, and both keep the invariant.
 use Rattle.std.proofs.lemmas.Bool.Decides.{nat_tests}
-use Rattle.std.proofs.Common.{◌≡◌, ℕ, zero, suc, ◌≤◌, ◌<◌, Bool, true, false, cond, not, List, [], ◌∷◌, length, refl, sym, ap, subst, ◌∙◌, ◌&&◌, arith, nat_le, nat_lt, nat_eq}
+use Rattle.std.proofs.Common.{◌≡◌, ℕ, zero, suc, ◌≤◌, ◌<◌, Bool, true, false, cond, not, List, [], ◌∷◌, length, refl, sym, ap, subst, ◌∙◌, ◌&&◌}
+use Rattle.std.proofs.Common.{arith, nat_le, nat_lt, nat_eq}
 use Rattle.std.specs.Prelude.{Option, None, Some, slice_get}
 use Rattle.std.specs.List.{insert, remove, list_all, list_any}
 use Rattle.std.specs.FinMap.{get}
@@ -22,7 +23,8 @@ use Rattle.model_state.specs.Good.{AttrOk, ValuesOk, Good, is_distinct}
 use Rattle.model_state.proofs.Orders.{attr_order}
 use Rattle.model_state.proofs.StepTests.{passed, pass, value_equality}
 use Rattle.finite_maps.proofs.Cases.{not_false, not_true, or_first, or_second}
-use Rattle.model_laws.proofs.Inserts.{remove-insert, insert-remove, length-insert, slice_get-insert, list_all-insert, list_any-insert, list_all-remove, list_any-remove, or_none}
+use Rattle.model_laws.proofs.Inserts.{remove-insert, insert-remove, length-insert, slice_get-insert, list_all-insert, list_any-insert}
+use Rattle.model_laws.proofs.Inserts.{list_all-remove, list_any-remove, or_none}
 use Rattle.model_state.specs.Ranks.{most_entries}
 
 -- what a many-valued attribute's values meet
@@ -41,7 +43,8 @@ within_none (Some n) = le n
 
 from_values : (meta : Meta) (k : Kind) (upper : Option ℕ) (vs : List Value) → is_many k ≡ true → ValuesOk meta k upper vs → ManyOk meta k upper vs
 from_values meta (AttrMany scalar unique) upper [] many h = absurd h
-from_values meta (AttrMany scalar unique) upper (v ∷ vs) many h = record { typed = h.0; within = h.1; few = h.2; once = λ is. sym (ap (λ b. cond b (is_distinct (v ∷ vs)) true) is) ∙ h.3 }
+from_values meta (AttrMany scalar unique) upper (v ∷ vs) many h =
+    record { typed = h.0; within = h.1; few = h.2; once = λ is. sym (ap (λ b. cond b (is_distinct (v ∷ vs)) true) is) ∙ h.3 }
 from_values meta (Attr scalar default) upper vs many h = cc
 from_values meta (Bounded target opposite) upper vs many h = cc
 from_values meta (Free target opposite) upper vs many h = cc
@@ -49,7 +52,8 @@ from_values meta (Contains target opposite) upper vs many h = cc
 from_values meta (Container target opposite) upper vs many h = cc
 from_values meta Skip upper vs many h = cc
 
-to_values : (meta : Meta) (k : Kind) (upper : Option ℕ) (v : Value) (vs : List Value) → is_many k ≡ true → ManyOk meta k upper (v ∷ vs) → ValuesOk meta k upper (v ∷ vs)
+to_values : (meta : Meta) (k : Kind) (upper : Option ℕ) (v : Value) (vs : List Value) → is_many k ≡ true → ManyOk meta k upper (v ∷ vs)
+    → ValuesOk meta k upper (v ∷ vs)
 to_values meta (AttrMany scalar true) upper v vs many h = (h.typed, h.within, h.few, h.once refl)
 to_values meta (AttrMany scalar false) upper v vs many h = (h.typed, h.within, h.few, refl)
 to_values meta (Attr scalar default) upper v vs many h = cc
@@ -79,12 +83,14 @@ pub part : (vs : List Value) → values_of (entry_of vs) ≡ vs
 part [] = refl
 part (v ∷ vs) = refl
 
-pub from_entry : (meta : Meta) (c : Option ℕ) (f : ℕ) (o : Option (List Value)) → is_many (kind_of meta f) ≡ true → AttrOk meta c f o → ManyOk meta (kind_of meta f) (upper_of meta f) (values_of o)
+pub from_entry : (meta : Meta) (c : Option ℕ) (f : ℕ) (o : Option (List Value)) → is_many (kind_of meta f) ≡ true → AttrOk meta c f o
+    → ManyOk meta (kind_of meta f) (upper_of meta f) (values_of o)
 from_entry meta c f None many h = record { typed = refl; within = within_none (upper_of meta f); few = omega arith; once = λ _. refl }
 from_entry meta None f (Some vs) many h = absurd h
 from_entry meta (Some c) f (Some vs) many h = from_values meta (kind_of meta f) (upper_of meta f) vs many h.1
 
-to_entry : (meta : Meta) (c : Option ℕ) (f : ℕ) (vs : List Value) → class_has meta c f ≡ true → is_many (kind_of meta f) ≡ true → ManyOk meta (kind_of meta f) (upper_of meta f) vs → AttrOk meta c f (entry_of vs)
+to_entry : (meta : Meta) (c : Option ℕ) (f : ℕ) (vs : List Value) → class_has meta c f ≡ true → is_many (kind_of meta f) ≡ true
+    → ManyOk meta (kind_of meta f) (upper_of meta f) vs → AttrOk meta c f (entry_of vs)
 to_entry meta c f [] has many h = tt
 to_entry meta None f (v ∷ vs) has many h = cc
 to_entry meta (Some c) f (v ∷ vs) has many h = (has, to_values meta (kind_of meta f) (upper_of meta f) v vs many h)
@@ -105,7 +111,8 @@ distinct-remove [] (suc i) h = refl
 distinct-remove (x ∷ xs) zero h = and_second (not (list_any (value_eq x) xs)) _ h
 distinct-remove (x ∷ xs) (suc i) h =
     and_both (not (list_any (value_eq x) (remove xs i))) _
-    (not_false (list_any (value_eq x) (remove xs i)) (list_any-remove (value_eq x) xs i (not_true (list_any (value_eq x) xs) (and_first (not (list_any (value_eq x) xs)) _ h))))
+    (not_false (list_any (value_eq x) (remove xs i))
+    (list_any-remove (value_eq x) xs i (not_true (list_any (value_eq x) xs) (and_first (not (list_any (value_eq x) xs)) _ h))))
     (distinct-remove xs i (and_second (not (list_any (value_eq x) xs)) _ h))
 
 any_at : (p : Value → Bool) (xs : List Value) (i : ℕ) (v : Value) → slice_get xs i ≡ Some v → list_any p xs ≡ false → p v ≡ false
@@ -119,7 +126,8 @@ any_at p (x ∷ xs) (suc i) v h out = any_at p xs i v h (or_second (p x) _ out)
 -- a value that stands once is not there once it is taken out
 once_gone : (xs : List Value) (i : ℕ) (v : Value) → slice_get xs i ≡ Some v → is_distinct xs ≡ true → list_any (value_eq v) (remove xs i) ≡ false
 once_gone [] i v h d = cc
-once_gone (x ∷ xs) zero v h d = subst (λ y. list_any (value_eq y) xs ≡ false) (same x v h) (not_true (list_any (value_eq x) xs) (and_first (not (list_any (value_eq x) xs)) _ d))
+once_gone (x ∷ xs) zero v h d =
+    subst (λ y. list_any (value_eq y) xs ≡ false) (same x v h) (not_true (list_any (value_eq x) xs) (and_first (not (list_any (value_eq x) xs)) _ d))
   where
     same : (x v : Value) → Some x ≡ Some v → x ≡ v
     same x v e = cc
@@ -186,13 +194,15 @@ module _ (meta : Meta) (m : State) (good : Good meta m) (e : IdBytes) (f : ℕ) 
     ins_fits = le_is _ _ (passed (tests meta m (Ins e f at v)) can).1.1.1.1.0
 
     ins_now : values_of (get (set m.attr (e, f) (entry_of (insert (values_of (get m.attr (e, f))) at v))) (e, f)) ≡ insert (values_of (get m.attr (e, f))) at v
-    ins_now = ap values_of (get-set_same attr_order m.attr (e, f) (entry_of (insert (values_of (get m.attr (e, f))) at v))) ∙ part (insert (values_of (get m.attr (e, f))) at v)
+    ins_now = ap values_of (get-set_same attr_order m.attr (e, f) (entry_of (insert (values_of (get m.attr (e, f))) at v)))
+        ∙ part (insert (values_of (get m.attr (e, f))) at v)
 
     pub ins_undone : apply meta (apply meta m (Ins e f at v)) (Del e f at v) ≡ m
     ins_undone =
         let vs = values_of (get m.attr (e, f)) in
         let after = set m.attr (e, f) (entry_of (insert vs at v)) in
-        let back : entry_of (remove (values_of (get after (e, f))) at) ≡ get m.attr (e, f) = ap (λ ws. entry_of (remove ws at)) ins_now ∙ ap entry_of (remove-insert vs at v ins_fits) ∙ ins_whole in
+        let back : entry_of (remove (values_of (get after (e, f))) at) ≡ get m.attr (e, f) =
+        ap (λ ws. entry_of (remove ws at)) ins_now ∙ ap entry_of (remove-insert vs at v ins_fits) ∙ ins_whole in
         ap (λ a. record m { attr = a }) (ap (set after (e, f)) back ∙ set_back attr_order m.attr (e, f) (get m.attr (e, f)) (entry_of (insert vs at v)) refl)
 
     pub ins_back : Can meta (apply meta m (Ins e f at v)) (Del e f at v)
@@ -208,9 +218,11 @@ module _ (meta : Meta) (m : State) (good : Good meta m) (e : IdBytes) (f : ℕ) 
               (
                 p.1.1.1.0,
                 (
-                  is_lt at _ (subst (λ ws. at < length ws) (sym ins_now) (subst (λ n. at < n) (sym (length-insert vs at v ins_fits)) (omega (arith, ins_fits)))),
+                  is_lt at _ (subst (λ ws. at < length ws) (sym ins_now)
+                      (subst (λ n. at < n) (sym (length-insert vs at v ins_fits)) (omega (arith, ins_fits)))),
                   (
-                    ap (λ ws. option_eq value_eq (slice_get ws at) (Some v)) ins_now ∙ ap (λ o. option_eq value_eq o (Some v)) (slice_get-insert vs at v ins_fits) ∙ value_test.own (Some v),
+                    ap (λ ws. option_eq value_eq (slice_get ws at) (Some v)) ins_now
+                        ∙ ap (λ o. option_eq value_eq o (Some v)) (slice_get-insert vs at v ins_fits) ∙ value_test.own (Some v),
                     tt,
                   ),
                 ),
@@ -236,8 +248,10 @@ module _ (meta : Meta) (m : State) (good : Good meta m) (e : IdBytes) (f : ℕ) 
           attrs = record {
             typed = λ x h.
                 by_key attr_order (λ q. AttrOk meta (get m.kind q.0) q.1 (get (set m.attr (e, f) (entry_of (insert vs at v))) q)) (e, f) (x, h)
-                (subst (λ o. AttrOk meta (get m.kind e) f o) (sym (get-set_same attr_order m.attr (e, f) (entry_of (insert vs at v)))) (to_entry meta (get m.kind e) f (insert vs at v) p.1.0 p.1.1.0 ok))
-                (λ other. subst (λ o. AttrOk meta (get m.kind x) h o) (sym (get-set_other attr_order m.attr (e, f) (entry_of (insert vs at v)) (x, h) other)) (good.attrs.typed x h));
+                (subst (λ o. AttrOk meta (get m.kind e) f o) (sym (get-set_same attr_order m.attr (e, f) (entry_of (insert vs at v))))
+                (to_entry meta (get m.kind e) f (insert vs at v) p.1.0 p.1.1.0 ok))
+                (λ other. subst (λ o. AttrOk meta (get m.kind x) h o)
+                (sym (get-set_other attr_order m.attr (e, f) (entry_of (insert vs at v)) (x, h) other)) (good.attrs.typed x h));
           };
           rows = good.rows;
         }
@@ -250,13 +264,16 @@ module _ (meta : Meta) (m : State) (good : Good meta m) (e : IdBytes) (f : ℕ) 
     del_in = lt_is _ _ (passed (tests meta m (Del e f at v)) can).1.1.1.1.0
 
     del_now : values_of (get (set m.attr (e, f) (entry_of (remove (values_of (get m.attr (e, f))) at))) (e, f)) ≡ remove (values_of (get m.attr (e, f))) at
-    del_now = ap values_of (get-set_same attr_order m.attr (e, f) (entry_of (remove (values_of (get m.attr (e, f))) at))) ∙ part (remove (values_of (get m.attr (e, f))) at)
+    del_now = ap values_of (get-set_same attr_order m.attr (e, f) (entry_of (remove (values_of (get m.attr (e, f))) at)))
+        ∙ part (remove (values_of (get m.attr (e, f))) at)
 
     pub del_undone : apply meta (apply meta m (Del e f at v)) (Ins e f at v) ≡ m
     del_undone =
         let vs = values_of (get m.attr (e, f)) in
         let after = set m.attr (e, f) (entry_of (remove vs at)) in
-        let back : entry_of (insert (values_of (get after (e, f))) at v) ≡ get m.attr (e, f) = ap (λ ws. entry_of (insert ws at v)) del_now ∙ ap entry_of (insert-remove vs at v del_stands) ∙ whole meta (get m.kind e) f (get m.attr (e, f)) (good.attrs.typed e f) in
+        let back : entry_of (insert (values_of (get after (e, f))) at v) ≡ get m.attr (e, f) =
+        ap (λ ws. entry_of (insert ws at v)) del_now ∙ ap entry_of (insert-remove vs at v del_stands)
+        ∙ whole meta (get m.kind e) f (get m.attr (e, f)) (good.attrs.typed e f) in
         ap (λ a. record m { attr = a }) (ap (set after (e, f)) back ∙ set_back attr_order m.attr (e, f) (get m.attr (e, f)) (entry_of (remove vs at)) refl)
 
     pub del_back : Can meta (apply meta m (Del e f at v)) (Ins e f at v)
@@ -277,9 +294,12 @@ module _ (meta : Meta) (m : State) (good : Good meta m) (e : IdBytes) (f : ℕ) 
                 (
                   ap (λ ws. nat_le at (length ws)) del_now ∙ is_le at (length (remove vs at)) (omega (arith, shorter, del_in)),
                   (
-                    ap (λ ws. not (is_unique (kind_of meta f) && list_any (value_eq v) ws)) del_now ∙ not_both _ _ (λ is. once_gone vs at v del_stands (old.once is)),
+                    ap (λ ws. not (is_unique (kind_of meta f) && list_any (value_eq v) ws)) del_now
+                        ∙ not_both _ _ (λ is. once_gone vs at v del_stands (old.once is)),
                     (
-                      ap (λ ws. is_below (length ws) (upper_of meta f)) del_now ∙ within_below (length (remove vs at)) (upper_of meta f) (subst (λ n. is_within n (upper_of meta f) ≡ true) (sym shorter) old.within),
+                      ap (λ ws. is_below (length ws) (upper_of meta f)) del_now
+                          ∙ within_below (length (remove vs at)) (upper_of meta f)
+                          (subst (λ n. is_within n (upper_of meta f) ≡ true) (sym shorter) old.within),
                       (
                         ap (λ ws. nat_lt (length ws) most_entries) del_now ∙ is_lt (length (remove vs at)) most_entries few,
                         tt,
@@ -310,8 +330,10 @@ module _ (meta : Meta) (m : State) (good : Good meta m) (e : IdBytes) (f : ℕ) 
           attrs = record {
             typed = λ x h.
                 by_key attr_order (λ q. AttrOk meta (get m.kind q.0) q.1 (get (set m.attr (e, f) (entry_of (remove vs at))) q)) (e, f) (x, h)
-                (subst (λ o. AttrOk meta (get m.kind e) f o) (sym (get-set_same attr_order m.attr (e, f) (entry_of (remove vs at)))) (to_entry meta (get m.kind e) f (remove vs at) p.1.0 p.1.1.0 ok))
-                (λ other. subst (λ o. AttrOk meta (get m.kind x) h o) (sym (get-set_other attr_order m.attr (e, f) (entry_of (remove vs at)) (x, h) other)) (good.attrs.typed x h));
+                (subst (λ o. AttrOk meta (get m.kind e) f o) (sym (get-set_same attr_order m.attr (e, f) (entry_of (remove vs at))))
+                (to_entry meta (get m.kind e) f (remove vs at) p.1.0 p.1.1.0 ok))
+                (λ other. subst (λ o. AttrOk meta (get m.kind x) h o)
+                (sym (get-set_other attr_order m.attr (e, f) (entry_of (remove vs at)) (x, h) other)) (good.attrs.typed x h));
           };
           rows = good.rows;
         }
@@ -349,10 +371,13 @@ module _ (vs : List Value) (from to : ℕ) (v : Value) (here : slice_get vs from
 
   shifted_ok : (meta : Meta) (k : Kind) (upper : Option ℕ) → ManyOk meta k upper vs → ManyOk meta k upper (shifted vs from to)
   shifted_ok meta k upper old = record {
-    typed = ap (list_all (many_fits meta k)) (shifted_is vs from to v here) ∙ list_all-insert (many_fits meta k) (remove vs from) to v (all_at (many_fits meta k) vs from v here old.typed) (list_all-remove (many_fits meta k) vs from old.typed);
+    typed = ap (list_all (many_fits meta k)) (shifted_is vs from to v here)
+        ∙ list_all-insert (many_fits meta k) (remove vs from) to v (all_at (many_fits meta k) vs from v here old.typed)
+        (list_all-remove (many_fits meta k) vs from old.typed);
     within = ap (λ n. is_within n upper) length-shifted ∙ old.within;
     few = subst (λ n. n ≤ most_entries) (sym length-shifted) old.few;
-    once = λ is. ap is_distinct (shifted_is vs from to v here) ∙ distinct-insert (remove vs from) to v (once_gone vs from v here (old.once is)) (distinct-remove vs from (old.once is));
+    once = λ is. ap is_distinct (shifted_is vs from to v here)
+        ∙ distinct-insert (remove vs from) to v (once_gone vs from v here (old.once is)) (distinct-remove vs from (old.once is));
   }
 
 module _ (meta : Meta) (m : State) (good : Good meta m) (e : IdBytes) (f : ℕ) (from to : ℕ) (can : Can meta m (Shift e f from to)) where
@@ -362,15 +387,19 @@ module _ (meta : Meta) (m : State) (good : Good meta m) (e : IdBytes) (f : ℕ) 
   to_in : to < length (values_of (get m.attr (e, f)))
   to_in = lt_is _ _ (passed (tests meta m (Shift e f from to)) can).1.1.1.1.1.0
 
-  shift_now : values_of (get (set m.attr (e, f) (entry_of (shifted (values_of (get m.attr (e, f))) from to))) (e, f)) ≡ shifted (values_of (get m.attr (e, f))) from to
-  shift_now = ap values_of (get-set_same attr_order m.attr (e, f) (entry_of (shifted (values_of (get m.attr (e, f))) from to))) ∙ part (shifted (values_of (get m.attr (e, f))) from to)
+  shift_now : values_of (get (set m.attr (e, f) (entry_of (shifted (values_of (get m.attr (e, f))) from to))) (e, f)) ≡ shifted
+      (values_of (get m.attr (e, f))) from to
+  shift_now = ap values_of (get-set_same attr_order m.attr (e, f) (entry_of (shifted (values_of (get m.attr (e, f))) from to)))
+      ∙ part (shifted (values_of (get m.attr (e, f))) from to)
 
   pub shift_undone : apply meta (apply meta m (Shift e f from to)) (Shift e f to from) ≡ m
   shift_undone =
       let vs = values_of (get m.attr (e, f)) in
       let s = stands vs from from_in in
       let after = set m.attr (e, f) (entry_of (shifted vs from to)) in
-      let back : entry_of (shifted (values_of (get after (e, f))) to from) ≡ get m.attr (e, f) = ap (λ ws. entry_of (shifted ws to from)) shift_now ∙ ap entry_of (shift_back vs from to s.0 s.1 from_in to_in) ∙ whole meta (get m.kind e) f (get m.attr (e, f)) (good.attrs.typed e f) in
+      let back : entry_of (shifted (values_of (get after (e, f))) to from) ≡ get m.attr (e, f) =
+      ap (λ ws. entry_of (shifted ws to from)) shift_now ∙ ap entry_of (shift_back vs from to s.0 s.1 from_in to_in)
+      ∙ whole meta (get m.kind e) f (get m.attr (e, f)) (good.attrs.typed e f) in
       ap (λ a. record m { attr = a }) (ap (set after (e, f)) back ∙ set_back attr_order m.attr (e, f) (get m.attr (e, f)) (entry_of (shifted vs from to)) refl)
 
   pub shift_returns : Can meta (apply meta m (Shift e f from to)) (Shift e f to from)
@@ -404,14 +433,17 @@ module _ (meta : Meta) (m : State) (good : Good meta m) (e : IdBytes) (f : ℕ) 
       let vs = values_of (get m.attr (e, f)) in
       let s = stands vs from from_in in
       let p = passed (tests meta m (Shift e f from to)) can in
-      let ok = shifted_ok vs from to s.0 s.1 from_in to_in meta (kind_of meta f) (upper_of meta f) (from_entry meta (get m.kind e) f (get m.attr (e, f)) p.1.1.0 (good.attrs.typed e f)) in
+      let ok = shifted_ok vs from to s.0 s.1 from_in to_in meta (kind_of meta f) (upper_of meta f)
+      (from_entry meta (get m.kind e) f (get m.attr (e, f)) p.1.1.0 (good.attrs.typed e f)) in
       record {
         places = good.places;
         attrs = record {
           typed = λ x h.
               by_key attr_order (λ q. AttrOk meta (get m.kind q.0) q.1 (get (set m.attr (e, f) (entry_of (shifted vs from to))) q)) (e, f) (x, h)
-              (subst (λ o. AttrOk meta (get m.kind e) f o) (sym (get-set_same attr_order m.attr (e, f) (entry_of (shifted vs from to)))) (to_entry meta (get m.kind e) f (shifted vs from to) p.1.0 p.1.1.0 ok))
-              (λ other. subst (λ o. AttrOk meta (get m.kind x) h o) (sym (get-set_other attr_order m.attr (e, f) (entry_of (shifted vs from to)) (x, h) other)) (good.attrs.typed x h));
+              (subst (λ o. AttrOk meta (get m.kind e) f o) (sym (get-set_same attr_order m.attr (e, f) (entry_of (shifted vs from to))))
+              (to_entry meta (get m.kind e) f (shifted vs from to) p.1.0 p.1.1.0 ok))
+              (λ other. subst (λ o. AttrOk meta (get m.kind x) h o)
+              (sym (get-set_other attr_order m.attr (e, f) (entry_of (shifted vs from to)) (x, h) other)) (good.attrs.typed x h));
         };
         rows = good.rows;
       }

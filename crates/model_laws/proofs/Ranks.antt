@@ -18,7 +18,8 @@ use Rattle.model_state.proofs.StepTests.{passed, pass, number_equality}
 use Rattle.finite_maps.proofs.Cases.{not_false, not_true}
 
 -- the rank's value does not matter
-any_rank : (meta : Meta) (kind : FinMap id_cmp ℕ) (c : Option ℕ) (p : Option Place) (r : Option ℕ) (old new : ℕ) → r ≡ Some old → PlaceOk meta kind c p r → PlaceOk meta kind c p (Some new)
+any_rank : (meta : Meta) (kind : FinMap id_cmp ℕ) (c : Option ℕ) (p : Option Place) (r : Option ℕ) (old new : ℕ) → r ≡ Some old
+    → PlaceOk meta kind c p r → PlaceOk meta kind c p (Some new)
 any_rank meta kind None None None old new is h = cc
 any_rank meta kind None None (Some r) old new is h = absurd h
 any_rank meta kind None (Some p) r old new is h = absurd h
@@ -48,8 +49,10 @@ module _ (meta : Meta) (m : State) (e : IdBytes) (old new : ℕ) (can : Can meta
   place_keeps good = record {
     places = record {
       stands = λ x. by_key id_order (λ x. PlaceOk meta m.kind (get m.kind x) (get m.place x) (get (set m.prank e (Some new)) x)) e x
-          (subst (λ r. PlaceOk meta m.kind (get m.kind e) (get m.place e) r) (sym (get-set_same id_order m.prank e (Some new))) (any_rank meta m.kind (get m.kind e) (get m.place e) (get m.prank e) old new was (good.places.stands e)))
-          (λ apart. subst (λ r. PlaceOk meta m.kind (get m.kind x) (get m.place x) r) (sym (get-set_other id_order m.prank e (Some new) x apart)) (good.places.stands x));
+          (subst (λ r. PlaceOk meta m.kind (get m.kind e) (get m.place e) r) (sym (get-set_same id_order m.prank e (Some new)))
+          (any_rank meta m.kind (get m.kind e) (get m.place e) (get m.prank e) old new was (good.places.stands e)))
+          (λ apart. subst (λ r. PlaceOk meta m.kind (get m.kind x) (get m.place x) r) (sym (get-set_other id_order m.prank e (Some new) x apart))
+          (good.places.stands x));
       bound = good.places.bound;
       ends = good.places.ends;
     };

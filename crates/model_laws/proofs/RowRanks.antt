@@ -57,12 +57,15 @@ module _ (meta : Meta) (m : State) (a : IdBytes) (f : ℕ) (b : IdBytes) (old ne
     attrs = good.attrs;
     rows = record {
       typed = λ x h y. by_key row_order (λ q. RowOk meta (get m.kind q.0) q.1 (get m.kind q.2) (get (set m.row (a, f, b) (Some new)) q)) (a, f, b) (x, h, y)
-          (subst (λ o. RowOk meta (get m.kind a) f (get m.kind b) o) (sym (get-set_same row_order m.row (a, f, b) (Some new))) (subst (λ o. RowOk meta (get m.kind a) f (get m.kind b) o) was (good.rows.typed a f b)))
-          (λ other. subst (λ o. RowOk meta (get m.kind x) h (get m.kind y) o) (sym (get-set_other row_order m.row (a, f, b) (Some new) (x, h, y) other)) (good.rows.typed x h y));
+          (subst (λ o. RowOk meta (get m.kind a) f (get m.kind b) o) (sym (get-set_same row_order m.row (a, f, b) (Some new)))
+          (subst (λ o. RowOk meta (get m.kind a) f (get m.kind b) o) was (good.rows.typed a f b)))
+          (λ other. subst (λ o. RowOk meta (get m.kind x) h (get m.kind y) o)
+          (sym (get-set_other row_order m.row (a, f, b) (Some new) (x, h, y) other)) (good.rows.typed x h y));
       mirrored = λ x h y k opp. there (x, h, y) ∙ good.rows.mirrored x h y k opp ∙ sym (there (y, k, x));
       bound = λ x h.
           let p = λ (e : RowKey × ℕ). text_eq x e.0.0 && nat_eq h e.0.1 in
-          let sum : count p (set m.row (a, f, b) (Some new)) + counts p (a, f, b) (get m.row (a, f, b)) ≡ count p m.row + counts p (a, f, b) (Some new) = count-set row_order p m.row (a, f, b) (Some new) in
+          let sum : count p (set m.row (a, f, b) (Some new)) + counts p (a, f, b) (get m.row (a, f, b)) ≡ count p m.row + counts p (a, f, b)
+          (Some new) = count-set row_order p m.row (a, f, b) (Some new) in
           let one : counts p (a, f, b) (get m.row (a, f, b)) ≡ counts p (a, f, b) (Some new) = ap (counts p (a, f, b)) was in
           let same : count p (set m.row (a, f, b) (Some new)) ≡ count p m.row = omega (arith, sum, one) in
           ap (λ n. is_within n (row_upper meta h)) same ∙ good.rows.bound x h;

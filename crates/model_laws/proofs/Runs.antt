@@ -28,17 +28,59 @@ pub record Undoes (meta : Meta) (m : State) (s : Step) : Type 0 where
   pub undone : apply meta (apply meta m s) (rev s) ≡ m
 
 pub undoes : (meta : Meta) → Sound meta → (m : State) → Good meta m → (s : Step) → Can meta m s → Undoes meta m s
-undoes meta sound m good (Put e f old new) can = record { keeps = put_keeps meta m good e f old new can; back = put_back meta m e f old new can; undone = put_undone meta m e f old new can }
-undoes meta sound m good (New e class place rank) can = record { keeps = new_keeps meta m good e class place rank can; back = new_back meta m good e class place rank can; undone = new_undone meta m good e class place rank can }
-undoes meta sound m good (Gone e class place rank) can = record { keeps = gone_keeps meta m good e class place rank can; back = gone_back meta m good e class place rank can; undone = gone_undone meta m good e class place rank can }
-undoes meta sound m good (Link a f ra b rb) can = record { keeps = link_keeps meta sound m good a f ra b rb can; back = link_back meta sound m good a f ra b rb can; undone = link_undone meta sound m good a f ra b rb can }
-undoes meta sound m good (Unlink a f ra b rb) can = record { keeps = unlink_keeps meta sound m good a f ra b rb can; back = unlink_back meta sound m good a f ra b rb can; undone = unlink_undone meta sound m good a f ra b rb can }
-undoes meta sound m good (RerankPlace e old new) can = record { keeps = place_keeps meta m e old new can good; back = place_back meta m e old new can; undone = place_undone meta m e old new can }
-undoes meta sound m good (Ins e f at v) can = record { keeps = ins_keeps meta m good e f at v can; back = ins_back meta m good e f at v can; undone = ins_undone meta m good e f at v can }
-undoes meta sound m good (Del e f at v) can = record { keeps = del_keeps meta m good e f at v can; back = del_back meta m good e f at v can; undone = del_undone meta m good e f at v can }
-undoes meta sound m good (Shift e f from to) can = record { keeps = shift_keeps meta m good e f from to can; back = shift_returns meta m good e f from to can; undone = shift_undone meta m good e f from to can }
-undoes meta sound m good (RerankRow a f b old new) can = record { keeps = row_keeps meta m a f b old new can good; back = row_back meta m a f b old new can; undone = row_undone meta m a f b old new can }
-undoes meta sound m good (Move e from from_rank to to_rank above_from above_to) can = record { keeps = move_keeps meta m e from from_rank to to_rank above_from above_to can good; back = move_back meta m e from from_rank to to_rank above_from above_to can good; undone = move_undone meta m e from from_rank to to_rank above_from above_to can }
+undoes meta sound m good (Put e f old new) can =
+    record { keeps = put_keeps meta m good e f old new can; back = put_back meta m e f old new can; undone = put_undone meta m e f old new can }
+undoes meta sound m good (New e class place rank) can =
+    record {
+      keeps = new_keeps meta m good e class place rank can;
+      back = new_back meta m good e class place rank can;
+      undone =
+          new_undone meta m good e class place rank can;
+    }
+undoes meta sound m good (Gone e class place rank) can =
+    record {
+      keeps = gone_keeps meta m good e class place rank can;
+      back = gone_back meta m good e class place rank can;
+      undone =
+          gone_undone meta m good e class place rank can;
+    }
+undoes meta sound m good (Link a f ra b rb) can =
+    record {
+      keeps = link_keeps meta sound m good a f ra b rb can;
+      back = link_back meta sound m good a f ra b rb can;
+      undone =
+          link_undone meta sound m good a f ra b rb can;
+    }
+undoes meta sound m good (Unlink a f ra b rb) can =
+    record {
+      keeps = unlink_keeps meta sound m good a f ra b rb can;
+      back = unlink_back meta sound m good a f ra b rb can;
+      undone =
+          unlink_undone meta sound m good a f ra b rb can;
+    }
+undoes meta sound m good (RerankPlace e old new) can =
+    record { keeps = place_keeps meta m e old new can good; back = place_back meta m e old new can; undone = place_undone meta m e old new can }
+undoes meta sound m good (Ins e f at v) can =
+    record { keeps = ins_keeps meta m good e f at v can; back = ins_back meta m good e f at v can; undone = ins_undone meta m good e f at v can }
+undoes meta sound m good (Del e f at v) can =
+    record { keeps = del_keeps meta m good e f at v can; back = del_back meta m good e f at v can; undone = del_undone meta m good e f at v can }
+undoes meta sound m good (Shift e f from to) can =
+    record {
+      keeps = shift_keeps meta m good e f from to can;
+      back = shift_returns meta m good e f from to can;
+      undone =
+          shift_undone meta m good e f from to can;
+    }
+undoes meta sound m good (RerankRow a f b old new) can =
+    record { keeps = row_keeps meta m a f b old new can good; back = row_back meta m a f b old new can; undone = row_undone meta m a f b old new can }
+undoes meta sound m good (Move e from from_rank to to_rank above_from above_to) can =
+    record {
+      keeps = move_keeps meta m e from from_rank to to_rank above_from above_to can good;
+      back =
+          move_back meta m e from from_rank to to_rank above_from above_to can good;
+      undone =
+          move_undone meta m e from from_rank to to_rank above_from above_to can;
+    }
 
 -- a run goes on where the step can be taken
 pub fold_more : (meta : Meta) (m : State) (s : Step) (ss : List Step) → Can meta m s → fold meta m (s ∷ ss) ≡ fold meta (apply meta m s) ss
@@ -46,15 +88,20 @@ fold_more meta m s ss can = ap (λ (o : Option StepFault). elim o as (λ _. Opti
 
 -- a fault further on is the fault of the whole where the step can be taken, and the step's own where it can't
 pub fault_more : (meta : Meta) (m : State) (s : Step) (ss : List Step) → Can meta m s → fault_along meta m (s ∷ ss) ≡ fault_along meta (apply meta m s) ss
-fault_more meta m s ss can = ap (λ (o : Option StepFault). elim o as (λ _. Option StepFault) [ None ↦ fault_along meta (apply meta m s) ss | Some e ↦ Some e ]) can
+fault_more meta m s ss can =
+    ap (λ (o : Option StepFault). elim o as (λ _. Option StepFault) [ None ↦ fault_along meta (apply meta m s) ss | Some e ↦ Some e ]) can
 
 pub fault_here : (meta : Meta) (m : State) (s : Step) (ss : List Step) (e : StepFault) → fault meta m s ≡ Some e → fault_along meta m (s ∷ ss) ≡ Some e
-fault_here meta m s ss e is = ap (λ (o : Option StepFault). elim o as (λ _. Option StepFault) [ None ↦ fault_along meta (apply meta m s) ss | Some e ↦ Some e ]) is
+fault_here meta m s ss e is =
+    ap (λ (o : Option StepFault). elim o as (λ _. Option StepFault) [ None ↦ fault_along meta (apply meta m s) ss | Some e ↦ Some e ]) is
 
 -- from a run to its first step
-pub fold_first : (meta : Meta) (m n : State) (s : Step) (ss : List Step) → fold meta m (s ∷ ss) ≡ Some n → Can meta m s × (fold meta (apply meta m s) ss ≡ Some n)
+pub fold_first : (meta : Meta) (m n : State) (s : Step) (ss : List Step) → fold meta m (s ∷ ss) ≡ Some n
+    → Can meta m s × (fold meta (apply meta m s) ss ≡ Some n)
 fold_first meta m n s ss h =
-    elim (fault meta m s) as (λ o. fault meta m s ≡ o → (elim o as (λ _. Option State) [ None ↦ fold meta (apply meta m s) ss | Some _ ↦ None ]) ≡ Some n → Can meta m s × (fold meta (apply meta m s) ss ≡ Some n)) [
+    elim (fault meta m s) as (λ o. fault meta m s ≡ o
+    → (elim o as (λ _. Option State) [ None ↦ fold meta (apply meta m s) ss | Some _ ↦ None ]) ≡ Some n
+    → Can meta m s × (fold meta (apply meta m s) ss ≡ Some n)) [
       | None ↦ λ is g. (is, g)
       | Some x ↦ λ _ g. cc
     ] refl h

@@ -21,13 +21,17 @@ pub starts_good : StartsGood
 starts_good meta = record {
   places = record {
     stands = λ e. carry (λ c p r. PlaceOk meta empty c p r) None _ None _ None _ (get-empty id_cmp e) (get-empty id_cmp e) (get-empty id_cmp e) tt;
-    bound = λ a f. ap (λ n. is_within n (child_upper meta f)) (count_none id_order (λ (x : IdBytes × Place). place_eq (Inside a f) x.1) empty (λ q v is. absurd (some_none (get empty q) v is (get-empty id_cmp q)))) ∙ within_none (child_upper meta f);
+    bound = λ a f. ap (λ n. is_within n (child_upper meta f))
+        (count_none id_order (λ (x : IdBytes × Place). place_eq (Inside a f) x.1) empty
+        (λ q v is. absurd (some_none (get empty q) v is (get-empty id_cmp q)))) ∙ within_none (child_upper meta f);
     ends = λ e p is. absurd (some_none (get empty e) p is (get-empty id_cmp e));
   };
   attrs = record { typed = λ e f. subst (λ o. AttrOk meta (get nothing.kind e) f o) (sym (get-empty attr_cmp (e, f))) tt };
   rows = record {
     typed = λ a f b. subst (λ o. RowOk meta (get nothing.kind a) f (get nothing.kind b) o) (sym (get-empty row_cmp (a, f, b))) tt;
     mirrored = λ a f b g is. ap is_some (get-empty row_cmp (a, f, b)) ∙ sym (ap is_some (get-empty row_cmp (b, g, a)));
-    bound = λ a f. ap (λ n. is_within n (row_upper meta f)) (count_none row_order (λ (e : RowKey × ℕ). text_eq a e.0.0 && nat_eq f e.0.1) empty (λ q v is. absurd (some_none (get empty q) v is (get-empty row_cmp q)))) ∙ within_none (row_upper meta f);
+    bound = λ a f. ap (λ n. is_within n (row_upper meta f))
+        (count_none row_order (λ (e : RowKey × ℕ). text_eq a e.0.0 && nat_eq f e.0.1) empty
+        (λ q v is. absurd (some_none (get empty q) v is (get-empty row_cmp q)))) ∙ within_none (row_upper meta f);
   };
 }

@@ -19,7 +19,8 @@ use Rattle.model_state.specs.Keys.{IdBytes, AttrKey, RowKey, id_cmp, row_cmp}
 use Rattle.model_state.specs.Typing.{opposite_of}
 use Rattle.model_state.specs.State.{State, place_eq, is_inside}
 use Rattle.model_state.specs.Steps.{tests, apply, single, mirror_write}
-use Rattle.model_laws.specs.Cells.{Cell, OfKind, OfPlace, OfRank, OfAttr, OfRow, OfWhole, About, is_finite, has, stands_in, stands_inside, side, mirror_side, place_list, parents_of, Agree, may_change}
+use Rattle.model_laws.specs.Cells.{Cell, OfKind, OfPlace, OfRank, OfAttr, OfRow, OfWhole, About, is_finite, has, stands_in, stands_inside, side}
+use Rattle.model_laws.specs.Cells.{mirror_side, place_list, parents_of, Agree, may_change}
 use Rattle.model_state.proofs.Orders.{id_order, attr_order, row_order}
 use Rattle.model_state.proofs.StepTests.{passed, place_equality}
 use Rattle.model_laws.proofs.Births.{dead_place}
@@ -32,13 +33,16 @@ apart_key : {K : Type 0} {R : K → K → Ordering} (o : IsKeyOrder R) (t : Bool
 apart_key {R = R} o t q k h out = not_so (eq_by_cmp R q k) (λ same. true_false t (h (same_key o q k same)) out)
 
 -- one attribute is written
-attr_leaves : (meta : Meta) (m : State) (e : IdBytes) (f : ℕ) (now : Option (List Value)) (c : Cell) → has (OfAttr e f ∷ About e ∷ []) c ≡ false → Agree meta m (record m { attr = set m.attr (e, f) now }) c
+attr_leaves : (meta : Meta) (m : State) (e : IdBytes) (f : ℕ) (now : Option (List Value)) (c : Cell) → has (OfAttr e f ∷ About e ∷ []) c ≡ false
+    → Agree meta m (record m { attr = set m.attr (e, f) now }) c
 attr_leaves meta m e f now (OfKind x) out = refl
 attr_leaves meta m e f now (OfPlace x) out = refl
 attr_leaves meta m e f now (OfRank x) out = refl
 attr_leaves meta m e f now (OfAttr x h) out =
     sym (get-set_other attr_order m.attr (e, f) now (x, h)
-    (apart_key attr_order (text_eq x e && nat_eq h f) (x, h) (e, f) (λ is. and_both _ _ (subst (λ (q : AttrKey). text_eq x q.0 ≡ true) is (text_equality.own x)) (subst (λ (q : AttrKey). nat_eq h q.1 ≡ true) is (nat_equality.own h))) (or_first _ _ out)))
+    (apart_key attr_order (text_eq x e && nat_eq h f) (x, h) (e, f)
+    (λ is. and_both _ _ (subst (λ (q : AttrKey). text_eq x q.0 ≡ true) is (text_equality.own x))
+    (subst (λ (q : AttrKey). nat_eq h q.1 ≡ true) is (nat_equality.own h))) (or_first _ _ out)))
 attr_leaves meta m e f now (OfRow a h b) out = λ is. refl
 attr_leaves meta m e f now (OfWhole a h) out = (λ is b. refl, λ is x. refl)
 attr_leaves meta m e f now (About x) out = (
@@ -49,11 +53,13 @@ attr_leaves meta m e f now (About x) out = (
   λ y. refl,
 )
 
-place_leaves : (meta : Meta) (m : State) (e : IdBytes) (old new : ℕ) (c : Cell) → has (may_change meta (RerankPlace e old new)) c ≡ false → Agree meta m (apply meta m (RerankPlace e old new)) c
+place_leaves : (meta : Meta) (m : State) (e : IdBytes) (old new : ℕ) (c : Cell) → has (may_change meta (RerankPlace e old new)) c ≡ false
+    → Agree meta m (apply meta m (RerankPlace e old new)) c
 place_leaves meta m e old new (OfKind x) out = refl
 place_leaves meta m e old new (OfPlace x) out = refl
 place_leaves meta m e old new (OfRank x) out =
-    sym (get-set_other id_order m.prank e (Some new) x (apart_key id_order (text_eq x e) x e (λ is. subst (λ y. text_eq x y ≡ true) is (text_equality.own x)) (or_first _ _ out)))
+    sym (get-set_other id_order m.prank e (Some new) x
+    (apart_key id_order (text_eq x e) x e (λ is. subst (λ y. text_eq x y ≡ true) is (text_equality.own x)) (or_first _ _ out)))
 place_leaves meta m e old new (OfAttr x h) out = refl
 place_leaves meta m e old new (OfRow a h b) out = λ is. refl
 place_leaves meta m e old new (OfWhole a h) out = (λ is b. refl, λ is x. refl)
@@ -66,7 +72,8 @@ row_left : (meta : Meta) (row : FinMap row_cmp ℕ) (a : IdBytes) (f : ℕ) (b :
 row_left meta row a f b None v w q one other =
     sym (get-set_other row_order row (a, f, b) v q (not_so (eq_by_cmp row_cmp q (a, f, b)) (λ same. one (same_key row_order q (a, f, b) same))))
 row_left meta row a f b (Some g) v w q one other =
-    sym (get-set_other row_order (set row (a, f, b) v) (b, g, a) w q (not_so (eq_by_cmp row_cmp q (b, g, a)) (λ same. other g refl (same_key row_order q (b, g, a) same)))
+    sym (get-set_other row_order (set row (a, f, b) v) (b, g, a) w q
+    (not_so (eq_by_cmp row_cmp q (b, g, a)) (λ same. other g refl (same_key row_order q (b, g, a) same)))
     ∙ get-set_other row_order row (a, f, b) v q (not_so (eq_by_cmp row_cmp q (a, f, b)) (λ same. one (same_key row_order q (a, f, b) same))))
 
 has_mirror : (meta : Meta) (o : Option ℕ) (a b : IdBytes) (g : ℕ) → o ≡ Some g → has (mirror_side meta o a b) (side meta b g a) ≡ true
@@ -83,20 +90,25 @@ module _ (meta : Meta) (m : State) (a : IdBytes) (f : ℕ) (b : IdBytes) (opp : 
   side_left : (q : RowKey) → has cells (side meta q.0 q.1 q.2) ≡ false → get m.row q ≡ get after q
   side_left q out = row_left meta m.row a f b (opp) v w q
       (λ is. true_false _ (subst (λ (k : RowKey). has cells (side meta k.0 k.1 k.2) ≡ true) (sym is) (at_first (side meta a f b) _)) out)
-      (λ g its is. true_false _ (subst (λ (k : RowKey). has cells (side meta k.0 k.1 k.2) ≡ true) (sym is) (further (side meta a f b) (side meta b g a) _ (has_first (mirror_side meta (opp) a b) (About a ∷ About b ∷ []) (side meta b g a) (has_mirror meta (opp) a b g its)))) out)
+      (λ g its is. true_false _
+      (subst (λ (k : RowKey). has cells (side meta k.0 k.1 k.2) ≡ true) (sym is)
+      (further (side meta a f b) (side meta b g a) _
+      (has_first (mirror_side meta (opp) a b) (About a ∷ About b ∷ []) (side meta b g a) (has_mirror meta (opp) a b g its)))) out)
 
   about_left : (x : IdBytes) → has cells (About x) ≡ false → (q : RowKey) → (q.0 ≡ x) → get m.row q ≡ get after q
   about_left x out q from =
       let outs = not_second (side meta a f b ∷ mirror_side meta (opp) a b) (About a ∷ About b ∷ []) (About x) out in
       row_left meta m.row a f b (opp) v w q
       (λ is. true_false (text_eq x a) (subst (λ z. text_eq x z ≡ true) (sym from ∙ ap (λ (k : RowKey). k.0) is) (text_equality.own x)) (or_first _ _ outs))
-      (λ g its is. true_false (text_eq x b) (subst (λ z. text_eq x z ≡ true) (sym from ∙ ap (λ (k : RowKey). k.0) is) (text_equality.own x)) (or_first (text_eq x b) false (or_second (text_eq x a) _ outs)))
+      (λ g its is. true_false (text_eq x b) (subst (λ z. text_eq x z ≡ true) (sym from ∙ ap (λ (k : RowKey). k.0) is) (text_equality.own x))
+      (or_first (text_eq x b) false (or_second (text_eq x a) _ outs)))
 
   about_left' : (x : IdBytes) → has cells (About x) ≡ false → (q : RowKey) → (q.2 ≡ x) → get m.row q ≡ get after q
   about_left' x out q to =
       let outs = not_second (side meta a f b ∷ mirror_side meta (opp) a b) (About a ∷ About b ∷ []) (About x) out in
       row_left meta m.row a f b (opp) v w q
-      (λ is. true_false (text_eq x b) (subst (λ z. text_eq x z ≡ true) (sym to ∙ ap (λ (k : RowKey). k.2) is) (text_equality.own x)) (or_first (text_eq x b) false (or_second (text_eq x a) _ outs)))
+      (λ is. true_false (text_eq x b) (subst (λ z. text_eq x z ≡ true) (sym to ∙ ap (λ (k : RowKey). k.2) is) (text_equality.own x))
+      (or_first (text_eq x b) false (or_second (text_eq x a) _ outs)))
       (λ g its is. true_false (text_eq x a) (subst (λ z. text_eq x z ≡ true) (sym to ∙ ap (λ (k : RowKey). k.2) is) (text_equality.own x)) (or_first _ _ outs))
 
   rows_leave : (c : Cell) → has cells c ≡ false → Agree meta m (record m { row = after }) c
@@ -105,11 +117,13 @@ module _ (meta : Meta) (m : State) (a : IdBytes) (f : ℕ) (b : IdBytes) (opp : 
   rows_leave (OfRank x) out = refl
   rows_leave (OfAttr x h) out = refl
   rows_leave (OfRow x h y) out = λ is. side_left (x, h, y) (ap (λ t. has cells (elim t as (λ _. Cell) [ true ↦ OfWhole x h | false ↦ OfRow x h y ])) is ∙ out)
-  rows_leave (OfWhole x h) out = (λ is y. side_left (x, h, y) (ap (λ t. has cells (elim t as (λ _. Cell) [ true ↦ OfWhole x h | false ↦ OfRow x h y ])) is ∙ out), λ is y. refl)
+  rows_leave (OfWhole x h) out =
+      (λ is y. side_left (x, h, y) (ap (λ t. has cells (elim t as (λ _. Cell) [ true ↦ OfWhole x h | false ↦ OfRow x h y ])) is ∙ out), λ is y. refl)
   rows_leave (About x) out = (λ h. refl, λ h y. about_left x out (x, h, y) refl, λ y h. about_left' x out (y, h, x) refl, λ y. refl)
 
 -- ---- births
-whole_listed : (meta : Meta) (a : IdBytes) (f : ℕ) (place : Place) → is_finite meta f ≡ true → Inside a f ≡ place → has (place_list meta place) (OfWhole a f) ≡ true
+whole_listed : (meta : Meta) (a : IdBytes) (f : ℕ) (place : Place) → is_finite meta f ≡ true → Inside a f ≡ place
+    → has (place_list meta place) (OfWhole a f) ≡ true
 whole_listed meta a f place finite is =
     subst (λ p. has (place_list meta p) (OfWhole a f) ≡ true) is
     (ap (λ t. has (elim t as (λ _. List Cell) [ true ↦ OfWhole a f ∷ [] | false ↦ [] ]) (OfWhole a f)) finite ∙ at_first (OfWhole a f) [])
@@ -153,7 +167,8 @@ module _ (meta : Meta) (m : State) (e : IdBytes) (k : Option ℕ) (was now : Opt
   )
 
 -- ---- moves
-two_parents : (y : IdBytes) (from to : Place) → has (map About (parents_of from ++ parents_of to)) (About y) ≡ false → (is_inside y from ≡ false) × (is_inside y to ≡ false)
+two_parents : (y : IdBytes) (from to : Place) → has (map About (parents_of from ++ parents_of to)) (About y) ≡ false
+    → (is_inside y from ≡ false) × (is_inside y to ≡ false)
 two_parents y Root Root out = (refl, refl)
 two_parents y Root (Inside b g) out = (refl, or_first _ _ out)
 two_parents y (Inside a f) Root out = (or_first _ _ out, refl)
@@ -172,7 +187,8 @@ module _ (meta : Meta) (m : State) (e : IdBytes) (from to : Place) (rank : ℕ) 
   id_away x out = apart_key id_order (text_eq x e) x e (λ is. subst (λ y. text_eq x y ≡ true) is (text_equality.own x)) out
 
   unlisted : (a : IdBytes) (f : ℕ) → is_finite meta f ≡ true → (p : Place) → has (place_list meta p) (OfWhole a f) ≡ false → place_eq (Inside a f) p ≡ false
-  unlisted a f finite p out = not_so (place_eq (Inside a f) p) (λ same. true_false _ (whole_listed meta a f p finite (place_equality.exact (Inside a f) p same)) out)
+  unlisted a f finite p out =
+      not_so (place_eq (Inside a f) p) (λ same. true_false _ (whole_listed meta a f p finite (place_equality.exact (Inside a f) p same)) out)
 
   moves_leave : (c : Cell) → has moved c ≡ false → Agree meta m (record m { place = set m.place e (Some to); prank = set m.prank e (Some rank) }) c
   moves_leave (OfKind x) out = refl
@@ -194,7 +210,8 @@ module _ (meta : Meta) (m : State) (e : IdBytes) (from to : Place) (rank : ℕ) 
     λ z h. refl,
     λ x.
         let abouts = not_second (place_list meta from ++ place_list meta to) (map About ((e ∷ (parents_of from ++ parents_of to)) ++ [])) (About y) out in
-        let parents = two_parents y from to (subst (λ xs. has (map About xs) (About y) ≡ false) (append_nil (parents_of from ++ parents_of to)) (or_second (text_eq y e) _ abouts)) in
+        let parents = two_parents y from to
+        (subst (λ xs. has (map About xs) (About y) ≡ false) (append_nil (parents_of from ++ parents_of to)) (or_second (text_eq y e) _ abouts)) in
         move_left (stands_inside y) (parents.0 ∙ sym parents.1) x,
   )
     where
@@ -207,9 +224,11 @@ leaves_others meta m good (Put e f old new) can c out = attr_leaves meta m e f (
 leaves_others meta m good (Ins e f at v) can c out = attr_leaves meta m e f (entry_of (insert (values_of (get m.attr (e, f))) at v)) c out
 leaves_others meta m good (Del e f at v) can c out = attr_leaves meta m e f (entry_of (remove (values_of (get m.attr (e, f))) at)) c out
 leaves_others meta m good (New e class place rank) can c out =
-    births_leave meta m e (Some class) None (Some place) (Some rank) place (dead_place meta m good e (no_some _ (not_true _ (passed (tests meta m (New e class place rank)) can).0))).0 (λ h alike. alike) c out
+    births_leave meta m e (Some class) None (Some place) (Some rank) place
+    (dead_place meta m good e (no_some _ (not_true _ (passed (tests meta m (New e class place rank)) can).0))).0 (λ h alike. alike) c out
 leaves_others meta m good (Gone e class place rank) can c out =
-    births_leave meta m e None (Some place) None None place (place_is m e place (passed (tests meta m (Gone e class place rank)) can).1.1.0) (λ h alike. sym alike) c out
+    births_leave meta m e None (Some place) None None place (place_is m e place (passed (tests meta m (Gone e class place rank)) can).1.1.0)
+    (λ h alike. sym alike) c out
   where
     place_is : (m : State) (e : IdBytes) (place : Place) → option_eq place_eq (get m.place e) (Some place) ≡ true → get m.place e ≡ Some place
     place_is m e place h = (option_equality place_eq place_equality).exact (get m.place e) (Some place) h
@@ -217,6 +236,8 @@ leaves_others meta m good (Link a f ra b rb) can c out = rows_leave meta m a f b
 leaves_others meta m good (Unlink a f ra b rb) can c out = rows_leave meta m a f b (opposite_of meta f) None None c out
 leaves_others meta m good (RerankPlace e old new) can c out = place_leaves meta m e old new c out
 leaves_others meta m good (Move e from from_rank to to_rank above_from above_to) can c out =
-    moves_leave meta m e from to to_rank ((option_equality place_eq place_equality).exact (get m.place e) (Some from) (passed (tests meta m (Move e from from_rank to to_rank above_from above_to)) can).1.0) c out
+    moves_leave meta m e from to to_rank
+    ((option_equality place_eq place_equality).exact (get m.place e) (Some from)
+    (passed (tests meta m (Move e from from_rank to to_rank above_from above_to)) can).1.0) c out
 leaves_others meta m good (RerankRow a f b old new) can c out = rows_leave meta m a f b None (Some new) None c out
 leaves_others meta m good (Shift e f from to) can c out = attr_leaves meta m e f (entry_of (shifted (values_of (get m.attr (e, f))) from to)) c out

@@ -61,8 +61,13 @@ Agree meta m n (OfPlace e) = get m.place e ≡ get n.place e
 Agree meta m n (OfRank e) = get m.prank e ≡ get n.prank e
 Agree meta m n (OfAttr e f) = get m.attr (e, f) ≡ get n.attr (e, f)
 Agree meta m n (OfRow a f b) = is_bounded meta f ≡ false → get m.row (a, f, b) ≡ get n.row (a, f, b)
-Agree meta m n (OfWhole a f) = (is_bounded meta f ≡ true → (b : IdBytes) → get m.row (a, f, b) ≡ get n.row (a, f, b)) × (is_finite meta f ≡ true → (x : IdBytes) → stands_in (Inside a f) (get m.place x) ≡ stands_in (Inside a f) (get n.place x))
-Agree meta m n (About e) = ((f : ℕ) → get m.attr (e, f) ≡ get n.attr (e, f)) × ((f : ℕ) (b : IdBytes) → get m.row (e, f, b) ≡ get n.row (e, f, b)) × ((a : IdBytes) (f : ℕ) → get m.row (a, f, e) ≡ get n.row (a, f, e)) × ((x : IdBytes) → stands_inside e (get m.place x) ≡ stands_inside e (get n.place x))
+Agree meta m n (OfWhole a f) =
+    (is_bounded meta f ≡ true → (b : IdBytes) → get m.row (a, f, b) ≡ get n.row (a, f, b))
+    × (is_finite meta f ≡ true → (x : IdBytes) → stands_in (Inside a f) (get m.place x) ≡ stands_in (Inside a f) (get n.place x))
+Agree meta m n (About e) =
+    ((f : ℕ) → get m.attr (e, f) ≡ get n.attr (e, f)) × ((f : ℕ) (b : IdBytes) → get m.row (e, f, b) ≡ get n.row (e, f, b))
+    × ((a : IdBytes) (f : ℕ) → get m.row (a, f, e) ≡ get n.row (a, f, e))
+    × ((x : IdBytes) → stands_inside e (get m.place x) ≡ stands_inside e (get n.place x))
 
 -- the cell of one end of a row
 abbrev pub side : Meta → IdBytes → ℕ → IdBytes → Cell

@@ -11,7 +11,8 @@ use Rattle.model_laws.specs.Cells.{AreDisjoint}
 
 -- what steps did, their reversals in reversed order undo
 abbrev pub ReversalUndoes : Type 0
-ReversalUndoes = (meta : Meta) → Sound meta → (m n : State) → Good meta m → (steps : List Step) → fold meta m steps ≡ Some n → fold meta n (rev_all steps) ≡ Some m
+ReversalUndoes = (meta : Meta) → Sound meta → (m n : State) → Good meta m → (steps : List Step) → fold meta m steps ≡ Some n
+    → fold meta n (rev_all steps) ≡ Some m
 
 -- steps keep the invariant
 abbrev pub StepsKeepGood : Type 0
@@ -19,12 +20,14 @@ StepsKeepGood = (meta : Meta) → Sound meta → (m n : State) → Good meta m �
 
 -- two runs whose cells are disjoint commute
 abbrev pub ExchangeHolds : Type 0
-ExchangeHolds = (meta : Meta) → Sound meta → (ps qs : List Step) (m n k : State) → Good meta m → AreDisjoint meta ps qs → fold meta m ps ≡ Some n → fold meta n qs ≡ Some k
+ExchangeHolds = (meta : Meta) → Sound meta → (ps qs : List Step) (m n k : State) → Good meta m → AreDisjoint meta ps qs → fold meta m ps ≡ Some n
+    → fold meta n qs ≡ Some k
     → (l : State) × (fold meta m qs ≡ Some l) × (fold meta l ps ≡ Some k)
 
 -- two runs whose cells are disjoint and that can both be made can be made one after the other
 abbrev pub SideBySide : Type 0
-SideBySide = (meta : Meta) → Sound meta → (ps qs : List Step) (m n k : State) → Good meta m → AreDisjoint meta ps qs → fold meta m ps ≡ Some n → fold meta m qs ≡ Some k
+SideBySide = (meta : Meta) → Sound meta → (ps qs : List Step) (m n k : State) → Good meta m → AreDisjoint meta ps qs → fold meta m ps ≡ Some n
+    → fold meta m qs ≡ Some k
     → (l : State) × (fold meta n qs ≡ Some l) × (fold meta k ps ≡ Some l)
 
 -- the empty state meets the invariant

@@ -8,7 +8,8 @@ use Rattle.model_state.specs.declared.operation.Operation.{Operation}
 
 -- what a package did, its reversal undoes
 abbrev pub PackageReversalUndoes : Type 0
-PackageReversalUndoes = (meta : Meta) → Sound meta → (m n : State) → Good meta m → (p : List Operation) → fold_package meta m p ≡ Some n → fold_package meta n (rev_package p) ≡ Some m
+PackageReversalUndoes = (meta : Meta) → Sound meta → (m n : State) → Good meta m → (p : List Operation) → fold_package meta m p ≡ Some n
+    → fold_package meta n (rev_package p) ≡ Some m
 
 -- packages keep the invariant
 abbrev pub PackagesKeepGood : Type 0

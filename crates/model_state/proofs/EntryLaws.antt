@@ -65,7 +65,8 @@ module _ (cmp : Entry → Entry → Ordering) where
   highest_put : (x : Entry) (ys : List Entry) → highest (put_in cmp x ys) ≡ Some (higher x.rank (unwrap_or (highest ys) 0))
   highest_put x [] = refl
   highest_put x (y ∷ ys) =
-      elim (is_lt (cmp y x)) as (λ b. highest (cond {A = List Entry} b (y ∷ put_in cmp x ys) (x ∷ y ∷ ys)) ≡ Some (higher x.rank (higher y.rank (unwrap_or (highest ys) 0)))) [
+      elim (is_lt (cmp y x)) as (λ b.
+      highest (cond {A = List Entry} b (y ∷ put_in cmp x ys) (x ∷ y ∷ ys)) ≡ Some (higher x.rank (higher y.rank (unwrap_or (highest ys) 0)))) [
         | true ↦ ap (λ o. Some (higher y.rank (unwrap_or o 0))) (highest_put x ys) ∙ ap Some (turned y.rank x.rank (unwrap_or (highest ys) 0))
         | false ↦ refl
       ]
@@ -90,7 +91,9 @@ last_risen [] up = refl
 last_risen (y ∷ ys) up =
     elim (last_rank ys) as (λ o. last_rank ys ≡ o → Some (unwrap_or o y.rank) ≡ Some (higher y.rank (unwrap_or (highest ys) 0))) [
       | None ↦ λ none. ap Some (sym (ap (λ o. higher y.rank (unwrap_or o 0)) (sym (last_risen ys up.1) ∙ none) ∙ alone y.rank))
-      | Some q ↦ λ later. ap Some (sym (ap (λ o. higher y.rank (unwrap_or o 0)) (sym (last_risen ys up.1) ∙ later) ∙ over y.rank q (least_last y.rank q ys (ranks_above y ys up.0) later)))
+      | Some q ↦ λ later. ap Some
+          (sym (ap (λ o. higher y.rank (unwrap_or o 0)) (sym (last_risen ys up.1) ∙ later)
+          ∙ over y.rank q (least_last y.rank q ys (ranks_above y ys up.0) later)))
     ] refl
   where
     alone : (r : ℕ) → higher r 0 ≡ r

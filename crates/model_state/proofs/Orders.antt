@@ -21,11 +21,13 @@ attr_order = record {
 
 exact_rows : CmpEqualImpliesEq row_cmp
 exact_rows a b h = ap (λ (p : (IdBytes × ℕ) × IdBytes). (p.0.0, p.0.1, p.1))
-    (exact_pairs (λ (x y : IdBytes × ℕ). ordering_then (id_cmp x.0 y.0) (nat_cmp x.1 y.1)) id_cmp (exact_pairs id_cmp nat_cmp exact_bytes exact_unsigned) exact_bytes ((a.0, a.1), a.2) ((b.0, b.1), b.2) h)
+    (exact_pairs (λ (x y : IdBytes × ℕ). ordering_then (id_cmp x.0 y.0) (nat_cmp x.1 y.1)) id_cmp
+    (exact_pairs id_cmp nat_cmp exact_bytes exact_unsigned) exact_bytes ((a.0, a.1), a.2) ((b.0, b.1), b.2) h)
 
 pub row_order : IsKeyOrder row_cmp
 row_order = record {
-  total = then_total (then_total (on_total (λ (x : RowKey). x.0) nat_list_cmp_total) (on_total (λ (x : RowKey). x.1) nat_cmp_total)) (on_total (λ (x : RowKey). x.2) nat_list_cmp_total);
+  total = then_total (then_total (on_total (λ (x : RowKey). x.0) nat_list_cmp_total) (on_total (λ (x : RowKey). x.1) nat_cmp_total))
+      (on_total (λ (x : RowKey). x.2) nat_list_cmp_total);
   exact = exact_rows;
 }
 

@@ -67,7 +67,8 @@ place_exact : (p q : Place) → place_eq p q ≡ true → p ≡ q
 place_exact Root Root h = refl
 place_exact Root (Inside b g) h = cc
 place_exact (Inside a f) Root h = cc
-place_exact (Inside a f) (Inside b g) h = let s = text_equality.exact a b (and_first _ _ h) in let t = nat_equality.exact f g (and_second _ _ h) in λ i. Inside (s i) (t i)
+place_exact (Inside a f) (Inside b g) h = let s = text_equality.exact a b (and_first _ _ h) in let t = nat_equality.exact f g (and_second _ _ h)
+    in λ i. Inside (s i) (t i)
 
 place_own : (p : Place) → place_eq p p ≡ true
 place_own Root = refl

@@ -26,7 +26,9 @@ is_distinct (v ∷ vs) = not (list_any (value_eq v) vs) && is_distinct vs
 -- a list of values that an attribute of the kind may hold
 abbrev pub ValuesOk : Meta → Kind → Option ℕ → List Value → Type 0
 ValuesOk meta (Attr scalar default) upper (v ∷ []) = (fits meta scalar v ≡ true) × (is_default (Attr scalar default) v ≡ false)
-ValuesOk meta (AttrMany scalar unique) upper (v ∷ vs) = (list_all (fits meta scalar) (v ∷ vs) ≡ true) × (is_within (length (v ∷ vs)) upper ≡ true) × (length (v ∷ vs) ≤ most_entries) × (cond unique (is_distinct (v ∷ vs)) true ≡ true)
+ValuesOk meta (AttrMany scalar unique) upper (v ∷ vs) =
+    (list_all (fits meta scalar) (v ∷ vs) ≡ true) × (is_within (length (v ∷ vs)) upper ≡ true) × (length (v ∷ vs) ≤ most_entries)
+    × (cond unique (is_distinct (v ∷ vs)) true ≡ true)
 ValuesOk meta k upper vs = ⊥
 
 -- an attribute's entry, by the class of its element

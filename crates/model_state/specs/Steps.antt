@@ -1,5 +1,6 @@
 -- The steps: when each may be taken, what it does, and its reversal.
-use Rattle.std.specs.Prelude.{◌≡◌, ℕ, ◌+◌, Bool, true, false, List, [], ◌∷◌, ◌++◌, Option, None, Some, is_some, nat_eq, nat_lt, nat_le, not, ◌&&◌, cond, length, slice_get}
+use Rattle.std.specs.Prelude.{◌≡◌, ℕ, ◌+◌, Bool, true, false, List, [], ◌∷◌, ◌++◌, Option, None, Some, is_some, nat_eq, nat_lt, nat_le, not, ◌&&◌}
+use Rattle.std.specs.Prelude.{cond, length, slice_get}
 use Rattle.std.specs.List.{list_any, insert, remove}
 use Rattle.model_state.specs.Lists.{entry_of, values_of, shifted}
 use Rattle.std.specs.FinMap.{FinMap, get}
@@ -15,7 +16,8 @@ use Rattle.model_state.specs.declared.step.StepFault.{StepFault}
 use Rattle.model_state.specs.declared.step.ApplyFault.{ApplyFault}
 use Rattle.model_state.specs.declared.step.StepFault.TheVariants.{NotThere, There, OldDiffers, Bound, WrongType, Chain, NotEmpty, BadStep}
 use Rattle.model_state.specs.Keys.{IdBytes, id_cmp}
-use Rattle.model_state.specs.Typing.{is_plain, is_many, is_unique, many_fits, upper_of, has_feature, kind_of, row_upper, child_upper, opposite_of, links, contains_to, is_concrete, is_default, attr_fits, is_attr, value_eq}
+use Rattle.model_state.specs.Typing.{is_plain, is_many, is_unique, many_fits, upper_of, has_feature, kind_of, row_upper, child_upper, opposite_of}
+use Rattle.model_state.specs.Typing.{links, contains_to, is_concrete, is_default, attr_fits, is_attr, value_eq}
 use Rattle.model_state.specs.State.{State, place_eq, is_live, child_count, row_count, value_count, link_count, inner_count, Writes, no_writes, written}
 use Rattle.model_state.specs.Ranks.{most_entries}
 

@@ -27,7 +27,8 @@ mapped f g h xs ys e = go xs ∙ ap (map g) e
     go (x ∷ xs) = λ i. h x i ∷ go xs i
 
 module _ (meta : Meta) (m n : State) (alike : Alike m n) where
-  alike_content : (f g : IdBytes → Data) → ((x : IdBytes) → f x ≡ g x) → (e : IdBytes) (k : ℕ) (kind : Kind) → content meta m f e k kind ≡ content meta n g e k kind
+  alike_content : (f g : IdBytes → Data) → ((x : IdBytes) → f x ≡ g x) → (e : IdBytes) (k : ℕ) (kind : Kind)
+      → content meta m f e k kind ≡ content meta n g e k kind
   alike_content f g h e k (Attr scalar default) = ap (first_value meta scalar) (alike.values e k)
   alike_content f g h e k (AttrMany scalar unique) = ap (λ vs. listed false (map (data_of meta scalar) vs)) (alike.values e k)
   alike_content f g h e k (Bounded target opposite) = ap (λ xs. listed (is_single meta k) (map reference xs)) (alike.targets e k)
@@ -49,7 +50,8 @@ module _ (meta : Meta) (m n : State) (alike : Alike m n) where
   unfolding element
   alike_element zero e = refl
   alike_element (suc k) e =
-      alike_object (element meta m k) (element meta n k) (alike_element k) e (get m.kind e) ∙ ap (λ kind. object_of meta n (element meta n k) e (get kind e)) alike.kinds
+      alike_object (element meta m k) (element meta n k) (alike_element k) e (get m.kind e)
+      ∙ ap (λ kind. object_of meta n (element meta n k) e (get kind e)) alike.kinds
 
   alike_whole : (e : IdBytes) → whole meta m e ≡ whole meta n e
   unfolding whole

@@ -67,10 +67,13 @@ module _ {K X : Type 0} {R : K → K → Ordering} (o : IsKeyOrder R) where
   found_later : (q : K) (e : K × X) (es : List (K × X)) → R q e.0 ≡ Greater → find R q (e ∷ es) ≡ find R q es
   found_later q e es h = ap (λ r. cond (is_eq r) (Some e.1) (find R q es)) h
 
-  still_found : (k : K) (v : X) (es fs : List (K × X)) → T (below_all R k es) → AllByRecursion (λ (e : K × X). find R e.0 fs ≡ Some e.1) es → AllByRecursion (λ (e : K × X). find R e.0 ((k, v) ∷ fs) ≡ Some e.1) es
+  still_found : (k : K) (v : X) (es fs : List (K × X)) → T (below_all R k es) → AllByRecursion (λ (e : K × X). find R e.0 fs ≡ Some e.1) es
+      → AllByRecursion (λ (e : K × X). find R e.0 ((k, v) ∷ fs) ≡ Some e.1) es
   still_found k v [] fs below all = tt
-  still_found k v (e ∷ es) fs below all =
-      (found_later e.0 (k, v) fs (o.total.antisymm e.0 k ∙ ap ordering_reverse (is_less _ (first _ _ below))) ∙ all.0, still_found k v es fs (second _ _ below) all.1)
+  still_found k v (e ∷ es) fs below all = (
+    found_later e.0 (k, v) fs (o.total.antisymm e.0 k ∙ ap ordering_reverse (is_less _ (first _ _ below))) ∙ all.0,
+    still_found k v es fs (second _ _ below) all.1,
+  )
 
   all_found : (es : List (K × X)) → T (is_sorted R es) → AllByRecursion (λ (e : K × X). find R e.0 es ≡ Some e.1) es
   all_found [] h = tt
@@ -90,6 +93,7 @@ pub each_child : (m : State) (p : Place) → AllByRecursion (λ (c : IdBytes). g
 each_child m p =
     all_map (λ (c : IdBytes). get m.place c ≡ Some p) (λ (e : Entry). e.id) (children m.place m.prank p)
     (all_in_order entry_cmp (λ (e : Entry). get m.place e.id ≡ Some p) _
-    (all_map (λ (e : Entry). get m.place e.id ≡ Some p) (λ (e : IdBytes × Place). record { rank = rank_at m.prank e.0; id = e.0 }) (picked (λ e. place_eq p e.1) m.place)
+    (all_map (λ (e : Entry). get m.place e.id ≡ Some p) (λ (e : IdBytes × Place). record { rank = rank_at m.prank e.0; id = e.0 })
+    (picked (λ e. place_eq p e.1) m.place)
     (all_filter (λ (e : IdBytes × Place). get m.place e.0 ≡ Some p) (λ (e : IdBytes × Place). get m.place e.0 ≡ Some e.1) (λ e. place_eq p e.1)
     (λ e is h. h ∙ ap (λ q. Some q) (sym (same_place p e.1 is))) (entries m.place) (all_entries id_order m.place))))

@@ -47,7 +47,8 @@ positive (suc n) h = omega arith
 some_there : (kind : FinMap id_cmp ℕ) (x : IdBytes) → is_some (get kind x) ≡ true → 0 < len kind
 some_there kind x h = positive (len kind) (λ e. none_some (get kind x) (ap (λ (k : FinMap id_cmp ℕ). get k x) (empty_of_len kind e) ∙ get-empty id_cmp x) h)
 
-still_live : (kind : FinMap id_cmp ℕ) (x : IdBytes) (xs : List IdBytes) → AllByRecursion (λ y. y ≡ x → ⊥) xs → AllByRecursion (λ y. is_some (get kind y) ≡ true) xs → AllByRecursion (λ y. is_some (get (remove kind x) y) ≡ true) xs
+still_live : (kind : FinMap id_cmp ℕ) (x : IdBytes) (xs : List IdBytes) → AllByRecursion (λ y. y ≡ x → ⊥) xs
+    → AllByRecursion (λ y. is_some (get kind y) ≡ true) xs → AllByRecursion (λ y. is_some (get (remove kind x) y) ≡ true) xs
 still_live kind x [] apart live = tt
 still_live kind x (y ∷ ys) apart live =
     (ap is_some (get-set_other id_order kind x None y (unequal_keys x y apart.0)) ∙ live.0, still_live kind x ys apart.1 live.1)
@@ -70,12 +71,15 @@ module _ (place : FinMap id_cmp Place) where
   one_chain (Some (Inside a f)) (x ∷ xs) (y ∷ ys) g h =
       ap suc (one_chain (get place x) xs ys g.1 (subst (λ z. IsChain place (get place z) ys) (h.0 ∙ sym g.0) h.1))
 
-  not_above : (e : IdBytes) (ys : List IdBytes) → IsChain place (get place e) ys → (o : Option Place) (xs : List IdBytes) → IsChain place o xs → length xs ≤ length ys → AllByRecursion (λ x. x ≡ e → ⊥) xs
+  not_above : (e : IdBytes) (ys : List IdBytes) → IsChain place (get place e) ys → (o : Option Place) (xs : List IdBytes) → IsChain place o xs
+      → length xs ≤ length ys → AllByRecursion (λ x. x ≡ e → ⊥) xs
   not_above e ys of_e o [] c less = tt
   not_above e ys of_e None (x ∷ xs) c less = absurd c
   not_above e ys of_e (Some Root) (x ∷ xs) c less = absurd c
-  not_above e ys of_e (Some (Inside a f)) (x ∷ xs) c less =
-      ((λ h. let l = one_chain (get place e) xs ys (subst (λ z. IsChain place (get place z) xs) h c.1) of_e in omega arith), not_above e ys of_e (get place x) xs c.1 (omega arith))
+  not_above e ys of_e (Some (Inside a f)) (x ∷ xs) c less = (
+    (λ h. let l = one_chain (get place e) xs ys (subst (λ z. IsChain place (get place z) xs) h c.1) of_e in omega arith),
+    not_above e ys of_e (get place x) xs c.1 (omega arith),
+  )
 
   chain_apart : (o : Option Place) (xs : List IdBytes) → IsChain place o xs → Apart xs
   chain_apart o [] c = tt
@@ -90,7 +94,8 @@ module _ (meta : Meta) (kind : FinMap id_cmp ℕ) where
   placed_live None (Some q) r p ok at = absurd ok
   placed_live (Some c) q r p ok at = refl
 
-  chained_live : (c : Option ℕ) (q : Option Place) (r : Option ℕ) (place : FinMap id_cmp Place) (xs : List IdBytes) → PlaceOk meta kind c q r → IsChain place q xs → is_some c ≡ true
+  chained_live : (c : Option ℕ) (q : Option Place) (r : Option ℕ) (place : FinMap id_cmp Place) (xs : List IdBytes) → PlaceOk meta kind c q r
+      → IsChain place q xs → is_some c ≡ true
   chained_live c None r place xs ok chain = absurd chain
   chained_live None (Some q) r place xs ok chain = absurd ok
   chained_live (Some c) (Some q) r place xs ok chain = refl
@@ -105,7 +110,8 @@ module _ (meta : Meta) (m : State) (good : GoodPlaces meta m.kind m.place m.pran
   live_chain o [] c = tt
   live_chain None (x ∷ xs) c = absurd c
   live_chain (Some Root) (x ∷ xs) c = absurd c
-  live_chain (Some (Inside a f)) (x ∷ xs) c = (chained_live meta m.kind (get m.kind x) (get m.place x) (get m.prank x) m.place xs (good.stands x) c.1, live_chain (get m.place x) xs c.1)
+  live_chain (Some (Inside a f)) (x ∷ xs) c =
+      (chained_live meta m.kind (get m.kind x) (get m.place x) (get m.prank x) m.place xs (good.stands x) c.1, live_chain (get m.place x) xs c.1)
 
   -- the containers of an element are fewer than the elements
   above_less : (e : IdBytes) (p : Place) (xs : List IdBytes) → get m.place e ≡ Some p → IsChain m.place (Some p) xs → length xs < len m.kind
@@ -115,12 +121,14 @@ module _ (meta : Meta) (m : State) (good : GoodPlaces meta m.kind m.place m.pran
       (placed_live meta m.kind (get m.kind e) (get m.place e) (get m.prank e) p (good.stands e) at, live_chain (get m.place e) xs own) in
       omega arith
 
-  deep_enough : (n : ℕ) (e : IdBytes) (p : Place) (xs : List IdBytes) → get m.place e ≡ Some p → IsChain m.place (Some p) xs → len m.kind ≤ length xs + n → element meta m (suc n) e ≡ element meta m n e
+  deep_enough : (n : ℕ) (e : IdBytes) (p : Place) (xs : List IdBytes) → get m.place e ≡ Some p → IsChain m.place (Some p) xs
+      → len m.kind ≤ length xs + n → element meta m (suc n) e ≡ element meta m n e
   unfolding element
   deep_enough zero e p xs at chain enough = let l = above_less e p xs at chain in absurd (omega arith)
   deep_enough (suc n) e p xs at chain enough =
       same_object meta m (element meta m (suc n)) (element meta m n) e (get m.kind e) (λ f.
-      all_weaker _ _ (λ c inside. deep_enough n c (Inside e f) (e ∷ xs) inside (refl, subst (λ o. IsChain m.place o xs) (sym at) chain) (omega arith)) (child_ids m (Inside e f)) (each_child m (Inside e f)))
+      all_weaker _ _ (λ c inside. deep_enough n c (Inside e f) (e ∷ xs) inside (refl, subst (λ o. IsChain m.place o xs) (sym at) chain) (omega arith))
+      (child_ids m (Inside e f)) (each_child m (Inside e f)))
 
   not_live : (n : ℕ) (e : IdBytes) → get m.kind e ≡ None → element meta m n e ≡ object no_members
   unfolding element
@@ -130,7 +138,8 @@ module _ (meta : Meta) (m : State) (good : GoodPlaces meta m.kind m.place m.pran
   nested : IsNested meta m
   unfolding whole element
   nested e = elim (get m.place e) as (λ o. get m.place e ≡ o → whole meta m e ≡ object_of meta m (whole meta m) e (get m.kind e)) [
-    | None ↦ λ is. let none = not_placed meta m.kind (get m.kind e) (get m.place e) (get m.prank e) (good.stands e) is in not_live (len m.kind) e none ∙ sym (ap (object_of meta m (whole meta m) e) none)
+    | None ↦ λ is. let none = not_placed meta m.kind (get m.kind e) (get m.place e) (get m.prank e) (good.stands e) is
+        in not_live (len m.kind) e none ∙ sym (ap (object_of meta m (whole meta m) e) none)
     | Some p ↦ λ is. let chain = good.ends e p is in sym (deep_enough (len m.kind) e p chain.0 is chain.1 (omega arith))
   ] refl
 

@@ -24,7 +24,8 @@ same_mapped : (f g : IdBytes → Data) (xs : List IdBytes) → AllByRecursion (�
 same_mapped f g [] h = refl
 same_mapped f g (x ∷ xs) h = λ i. h.0 i ∷ same_mapped f g xs h.1 i
 
-module _ (meta : Meta) (m : State) (f g : IdBytes → Data) (e : IdBytes) (same : (n : ℕ) → map f (child_ids m (Inside e n)) ≡ map g (child_ids m (Inside e n))) where
+module _ (meta : Meta) (m : State) (f g : IdBytes → Data) (e : IdBytes)
+    (same : (n : ℕ) → map f (child_ids m (Inside e n)) ≡ map g (child_ids m (Inside e n))) where
   same_content : (n : ℕ) (k : Kind) → content meta m f e n k ≡ content meta m g e n k
   same_content n (Attr scalar default) = refl
   same_content n (AttrMany scalar unique) = refl
@@ -43,5 +44,6 @@ module _ (meta : Meta) (m : State) (f g : IdBytes → Data) (e : IdBytes) (same 
   object_alike None = refl
   object_alike (Some c) = ap object (same_members (key_name meta) (part meta m f e c) (part meta m g e c) (same_part c) (keys_of meta c))
 
-pub same_object : (meta : Meta) (m : State) (f g : IdBytes → Data) (e : IdBytes) (o : Option ℕ) → ((n : ℕ) → AllByRecursion (λ x. f x ≡ g x) (child_ids m (Inside e n))) → object_of meta m f e o ≡ object_of meta m g e o
+pub same_object : (meta : Meta) (m : State) (f g : IdBytes → Data) (e : IdBytes) (o : Option ℕ)
+    → ((n : ℕ) → AllByRecursion (λ x. f x ≡ g x) (child_ids m (Inside e n))) → object_of meta m f e o ≡ object_of meta m g e o
 same_object meta m f g e o h = object_alike meta m f g e (λ n. same_mapped f g (child_ids m (Inside e n)) (h n)) o

@@ -27,7 +27,9 @@ same_key (Feature f) (Feature g) h = ap (λ n. Feature n) (less f g h)
 
 module _ (meta : Meta) where
   keys_exact : CmpEqualImpliesEq (key_cmp meta)
-  keys_exact x y h = same_key x y (ap (λ p. p.1) (exact_pairs (slice_cmp nat_cmp) nat_cmp exact_bytes exact_unsigned (key_name meta x, key_number x) (key_name meta y, key_number y) h))
+  keys_exact x y h = same_key x y
+      (ap (λ p. p.1) (exact_pairs (slice_cmp nat_cmp) nat_cmp exact_bytes exact_unsigned (key_name meta x, key_number x)
+      (key_name meta y, key_number y) h))
 
   pub key_order : IsKeyOrder (key_cmp meta)
   key_order = record {

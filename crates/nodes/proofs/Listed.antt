@@ -23,24 +23,29 @@ module _ {Y : Type 0} where
   apart_named k [] h = tt
   apart_named k (e ∷ es) h = (h.0, apart_named k es h.1)
 
-  distinct_named : (es : List (String Y × ℕ)) → IsDistinct string_eq (map {B = String Y} (λ e. e.0) es) → IsDistinct text_eq (map {B = IdBytes} (λ e. e.0) (named es))
+  distinct_named : (es : List (String Y × ℕ)) → IsDistinct string_eq (map {B = String Y} (λ e. e.0) es)
+      → IsDistinct text_eq (map {B = IdBytes} (λ e. e.0) (named es))
   unfolding IsDistinct
   distinct_named [] h = tt
   distinct_named (e ∷ es) h = (apart_named e.0 es h.0, distinct_named es h.1)
 
 -- ---- each id is found
 behind : (e : IdBytes × ℕ) (all es : List (IdBytes × ℕ)) → AllByRecursion (λ y. text_eq e.0 y ≡ false) (map {B = IdBytes} (λ e. e.0) es)
-    → AllByRecursion (λ (x : IdBytes × ℕ). lookup (text_eq x.0) all ≡ Some x.1) es → AllByRecursion (λ (x : IdBytes × ℕ). lookup (text_eq x.0) (e ∷ all) ≡ Some x.1) es
+    → AllByRecursion (λ (x : IdBytes × ℕ). lookup (text_eq x.0) all ≡ Some x.1) es
+    → AllByRecursion (λ (x : IdBytes × ℕ). lookup (text_eq x.0) (e ∷ all) ≡ Some x.1) es
 behind e all [] differ found = tt
-behind e all (x ∷ xs) differ found = (ap (λ b. cond b (Some e.1) (lookup (text_eq x.0) all)) (nat_list_eq_equiv.symm x.0 e.0 ∙ differ.0) ∙ found.0, behind e all xs differ.1 found.1)
+behind e all (x ∷ xs) differ found =
+    (ap (λ b. cond b (Some e.1) (lookup (text_eq x.0) all)) (nat_list_eq_equiv.symm x.0 e.0 ∙ differ.0) ∙ found.0, behind e all xs differ.1 found.1)
 
-all_found : (es : List (IdBytes × ℕ)) → IsDistinct text_eq (map {B = IdBytes} (λ e. e.0) es) → AllByRecursion (λ (x : IdBytes × ℕ). lookup (text_eq x.0) es ≡ Some x.1) es
+all_found : (es : List (IdBytes × ℕ)) → IsDistinct text_eq (map {B = IdBytes} (λ e. e.0) es)
+    → AllByRecursion (λ (x : IdBytes × ℕ). lookup (text_eq x.0) es ≡ Some x.1) es
 unfolding IsDistinct
 all_found [] apart = tt
 all_found (e ∷ es) apart = (ap (λ b. cond b (Some e.1) (lookup (text_eq e.0) es)) (text_equality.own e.0), behind e es es apart.0 (all_found es apart.1))
 
 module _ {T : Type 0} (es : List (IdBytes × ℕ)) (s : Slab (IdBytes × T)) (tied : IsTied es s) where
-  all_there : (fs : List (IdBytes × ℕ)) → AllByRecursion (λ (x : IdBytes × ℕ). lookup (text_eq x.0) es ≡ Some x.1) fs → AllByRecursion (λ k. is_some (node_at es s k) ≡ true) (map {B = IdBytes} (λ e. e.0) fs)
+  all_there : (fs : List (IdBytes × ℕ)) → AllByRecursion (λ (x : IdBytes × ℕ). lookup (text_eq x.0) es ≡ Some x.1) fs
+      → AllByRecursion (λ k. is_some (node_at es s k) ≡ true) (map {B = IdBytes} (λ e. e.0) fs)
   all_there [] found = tt
   all_there (e ∷ fs) found = (ap is_some (in_table es s tied e.0 e.1 found.0).2, all_there fs found.1)
 
@@ -49,7 +54,8 @@ module _ {T : Type 0} (es : List (IdBytes × ℕ)) (s : Slab (IdBytes × T)) (ti
 
 module _ {Y T : Type 0} (es : List (String Y × ℕ)) (s : Slab (IdBytes × T)) (tied : IsTied (named es) s) where
   -- the slots of the table have its ids
-  slots_have : (fs : List (String Y × ℕ)) → AllByRecursion (λ (x : IdBytes × ℕ). lookup (text_eq x.0) (named es) ≡ Some x.1) (named fs) → map (λ e. id_in s e.1) fs ≡ map {B = IdBytes} (λ e. e.0) (named fs)
+  slots_have : (fs : List (String Y × ℕ)) → AllByRecursion (λ (x : IdBytes × ℕ). lookup (text_eq x.0) (named es) ≡ Some x.1) (named fs)
+      → map (λ e. id_in s e.1) fs ≡ map {B = IdBytes} (λ e. e.0) (named fs)
   slots_have [] found = refl
   slots_have (e ∷ fs) found =
       let here : id_in s e.1 ≡ string_bytes e.0 = ap (λ o. option_map_or (λ x. x.0) o []) (tied (string_bytes e.0) e.1 found.0).1 in

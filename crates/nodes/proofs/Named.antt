@@ -15,11 +15,13 @@ module _ {Y : Type 0} where
   lookup-named (e ∷ es) q = ap (cond (text_eq q (string_bytes e.0)) (Some e.1)) (lookup-named es q)
 
   -- what a call found by the text t of the id
-  pub lookup-text : (es : List (String Y × ℕ)) (q t : IdBytes) → t ≡ q → (o : Option ℕ) → o ≡ lookup (λ k. bytes_eq t (string_bytes k)) es → lookup (text_eq q) (named es) ≡ o
+  pub lookup-text : (es : List (String Y × ℕ)) (q t : IdBytes) → t ≡ q → (o : Option ℕ) → o ≡ lookup (λ k. bytes_eq t (string_bytes k)) es
+      → lookup (text_eq q) (named es) ≡ o
   lookup-text es q t same o is = lookup-named es q ∙ ap (λ x. lookup (λ k. bytes_eq x (string_bytes k)) es) (sym same) ∙ sym is
 
   -- and what a call wrote by it
-  pub updates-text : {S : Type 0} (m n : HashMap (String Y) ℕ S) (e t : IdBytes) → t ≡ e → (w : Option ℕ) → UpdatesBy string_eq (λ k. bytes_eq t (string_bytes k)) m n w
+  pub updates-text : {S : Type 0} (m n : HashMap (String Y) ℕ S) (e t : IdBytes) → t ≡ e → (w : Option ℕ)
+      → UpdatesBy string_eq (λ k. bytes_eq t (string_bytes k)) m n w
       → (q : IdBytes) → lookup (text_eq q) (named n.entries) ≡ cond (text_eq e q) w (lookup (text_eq q) (named m.entries))
   updates-text m n e t same w h q =
       lookup-named n.entries q ∙ hash_map_updates_text t m n w h q

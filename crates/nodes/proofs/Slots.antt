@@ -22,10 +22,12 @@ use Rattle.nodes.specs.Tied.{in_slot, node_at, IsTied, table}
 some_none : {A : Type 0} (x : A) → None ≡ Some x → ⊥
 some_none x h = cc
 
-not_listed : {T : Type 0} (es : List (IdBytes × T)) (q : IdBytes) → list_any (eq_by_cmp id_cmp q) (map {B = IdBytes} (λ e. e.0) es) ≡ false → lookup (text_eq q) es ≡ None
+not_listed : {T : Type 0} (es : List (IdBytes × T)) (q : IdBytes) → list_any (eq_by_cmp id_cmp q) (map {B = IdBytes} (λ e. e.0) es) ≡ false
+    → lookup (text_eq q) es ≡ None
 not_listed [] q h = refl
 not_listed (e ∷ es) q h =
-    elim (eq_by_cmp id_cmp q e.0) as (λ b. eq_by_cmp id_cmp q e.0 ≡ b → (b || list_any (eq_by_cmp id_cmp q) (map {B = IdBytes} (λ e. e.0) es)) ≡ false → cond (text_eq q e.0) (Some e.1) (lookup (text_eq q) es) ≡ None) [
+    elim (eq_by_cmp id_cmp q e.0) as (λ b. eq_by_cmp id_cmp q e.0 ≡ b → (b || list_any (eq_by_cmp id_cmp q) (map {B = IdBytes} (λ e. e.0) es)) ≡ false
+    → cond (text_eq q e.0) (Some e.1) (lookup (text_eq q) es) ≡ None) [
       | true ↦ λ is no. absurd (clash no)
       | false ↦ λ is rest. ap (λ b. cond b (Some e.1) (lookup (text_eq q) es)) (texts_ties q e.0 ∙ is) ∙ not_listed es q rest
     ] refl h
@@ -38,7 +40,8 @@ module _ {T : Type 0} where
   get-table es s q = get-tabulate id_order (node_at es s) (map {B = IdBytes} (λ e. e.0) es) (λ q none. ap (in_slot s) (not_listed es q none)) q
 
   -- a table whose answers change at one id is the table after a write
-  pub table_updates : (es fs : List (IdBytes × ℕ)) (s t : Slab (IdBytes × T)) (k : IdBytes) (w : Option T) → ((q : IdBytes) → node_at fs t q ≡ cond (text_eq q k) w (node_at es s q)) → table fs t ≡ set (table es s) k w
+  pub table_updates : (es fs : List (IdBytes × ℕ)) (s t : Slab (IdBytes × T)) (k : IdBytes) (w : Option T)
+      → ((q : IdBytes) → node_at fs t q ≡ cond (text_eq q k) w (node_at es s q)) → table fs t ≡ set (table es s) k w
   table_updates es fs s t k w h = same id_order _ _ (λ q.
       get-table fs t q ∙ h q ∙ ap (λ b. cond b w (node_at es s q)) (texts_ties q k)
       ∙ ap (cond (eq_by_cmp id_cmp q k) w) (sym (get-table es s q)) ∙ sym (get-set id_order (table es s) k w q))
@@ -47,7 +50,8 @@ module _ {T : Type 0} where
   table_alike es fs s t h = same id_order _ _ (λ q. get-table fs t q ∙ h q ∙ sym (get-table es s q))
 
   -- an id that is in the table has a node
-  pub in_table : (es : List (IdBytes × ℕ)) (s : Slab (IdBytes × T)) → IsTied es s → (e : IdBytes) (at : ℕ) → lookup (text_eq e) es ≡ Some at → (x : T) × (slab.get s at ≡ Some (e, x)) × (node_at es s e ≡ Some x)
+  pub in_table : (es : List (IdBytes × ℕ)) (s : Slab (IdBytes × T)) → IsTied es s → (e : IdBytes) (at : ℕ) → lookup (text_eq e) es ≡ Some at
+      → (x : T) × (slab.get s at ≡ Some (e, x)) × (node_at es s e ≡ Some x)
   in_table es s tied e at is = let p = tied e at is in (p.0, p.1, ap (in_slot s) is ∙ ap (option_map (λ x. x.1)) p.1)
 
   -- an id without a node is not in the table
@@ -59,7 +63,8 @@ module _ {T : Type 0} where
       ] refl
 
   -- two ids have not one slot
-  pub apart : (es : List (IdBytes × ℕ)) (s : Slab (IdBytes × T)) → IsTied es s → (e q : IdBytes) (at : ℕ) → lookup (text_eq e) es ≡ Some at → lookup (text_eq q) es ≡ Some at → q ≡ e
+  pub apart : (es : List (IdBytes × ℕ)) (s : Slab (IdBytes × T)) → IsTied es s → (e q : IdBytes) (at : ℕ) → lookup (text_eq e) es ≡ Some at
+      → lookup (text_eq q) es ≡ Some at → q ≡ e
   apart es s tied e q at is that = let p = tied e at is in let r = tied q at that in one_id (e, p.0) (q, r.0) (sym p.1 ∙ r.1)
     where
       one_id : (x y : IdBytes × T) → Some x ≡ Some y → y.0 ≡ x.0
@@ -70,7 +75,8 @@ module _ {T : Type 0} where
   found es s q o is = get-table es s q ∙ ap (in_slot s) is
 
   -- an id with a node leads to a slot
-  pub present : (es : List (IdBytes × ℕ)) (s : Slab (IdBytes × T)) → IsTied es s → (q : IdBytes) → IsSome (get (table es s) q) → lookup (text_eq q) es ≡ None → ⊥
+  pub present : (es : List (IdBytes × ℕ)) (s : Slab (IdBytes × T)) → IsTied es s → (q : IdBytes) → IsSome (get (table es s) q)
+      → lookup (text_eq q) es ≡ None → ⊥
   present es s tied q some is = no_node (get (table es s) q) some (found es s q None is)
     where
       no_node : (o : Option T) → IsSome o → o ≡ None → ⊥
@@ -106,7 +112,8 @@ module _ {T : Type 0} (es fs : List (IdBytes × ℕ)) (s t : Slab (IdBytes × T)
   pub still_tied : IsTied fs t
   still_tied e at there =
       elim (text_eq e k) as (λ b. text_eq e k ≡ b → (x : T) × (slab.get t at ≡ Some (e, x))) [
-        | true ↦ λ same. subst (λ x. lookup (text_eq x) fs ≡ Some at → (y : T) × (slab.get t at ≡ Some (x, y))) (sym (text_equality.exact e k same)) (own at) there
+        | true ↦ λ same. subst (λ x. lookup (text_eq x) fs ≡ Some at → (y : T) × (slab.get t at ≡ Some (x, y))) (sym (text_equality.exact e k same))
+            (own at) there
         | false ↦ λ differ.
             let old : lookup (text_eq e) es ≡ Some at = sym (ids e differ) ∙ there in
             let p = tied e at old in
@@ -188,7 +195,9 @@ module _ {T : Type 0} (es : List (IdBytes × ℕ)) (s : Slab (IdBytes × T)) (k 
     no_id = ids k ∙ ap (λ b. cond b None (lookup (text_eq k) es)) (own_key k)
 
     pub removed : table fs t ≡ set (table es s) k None
-    removed = changed es fs s t k None tied kept_ids (λ i there. absurd (some_none i (sym no_id ∙ there))) (ap (in_slot t) no_id) (λ q i d there. others i (other_slot at is q i d there))
+    removed = changed es fs s t k None tied kept_ids (λ i there. absurd (some_none i (sym no_id ∙ there))) (ap (in_slot t) no_id)
+        (λ q i d there. others i (other_slot at is q i d there))
 
     pub removed_tied : IsTied fs t
-    removed_tied = still_tied es fs s t k None tied kept_ids (λ i there. absurd (some_none i (sym no_id ∙ there))) (ap (in_slot t) no_id) (λ q i d there. others i (other_slot at is q i d there))
+    removed_tied = still_tied es fs s t k None tied kept_ids (λ i there. absurd (some_none i (sym no_id ∙ there))) (ap (in_slot t) no_id)
+        (λ q i d there. others i (other_slot at is q i d there))

@@ -20,8 +20,11 @@ use Rattle.model_state.specs.declared.step.Step.TheVariants.{Put, Ins, Del, Shif
 use Rattle.model_state.specs.declared.operation.Operation.{Operation}
 use Rattle.model_state.specs.declared.operation.Operation.TheVariants.{Simple, Composite}
 use Rattle.op_form.specs.declared.event.Event.{Event}
-use Rattle.op_form.specs.declared.event.Event.TheVariants.{Init, Checkout, Edit, Begin, End, Undo, Discard, Tidy, Commit, Branch, Tag, Update, Merge, Drop, Evolve, Upgrade, Signed}
-use Rattle.op_form.specs.Formed.{IsU32, IsU64, IsIdText, IsNameText, IsGiven, IsList, IsSomeList, IsValue, IsPlace, IsStep, IsOperation, IsPackage, IsEvent, is_u32, is_u64, is_i64, is_short_text, is_given, is_list, is_some_list, is_value, is_place, is_step, is_operation, is_package, is_event}
+use Rattle.op_form.specs.declared.event.Event.TheVariants.{Init, Checkout, Edit, Begin, End, Undo, Discard, Tidy, Commit, Branch, Tag, Update, Merge}
+use Rattle.op_form.specs.declared.event.Event.TheVariants.{Drop, Evolve, Upgrade, Signed}
+use Rattle.op_form.specs.Formed.{IsU32, IsU64, IsIdText, IsNameText, IsGiven, IsList, IsSomeList, IsValue, IsPlace, IsStep, IsOperation, IsPackage}
+use Rattle.op_form.specs.Formed.{IsEvent, is_u32, is_u64, is_i64, is_short_text, is_given, is_list, is_some_list, is_value, is_place, is_step}
+use Rattle.op_form.specs.Formed.{is_operation, is_package, is_event}
 
 -- a test holds just where the fact does
 pub record Told (test : Bool) (Fact : Type 0) : Type 0 where

@@ -15,7 +15,8 @@ use Rattle.model_state.specs.declared.step.Step.TheVariants.{Put, Ins, Del, Shif
 use Rattle.model_state.specs.declared.operation.Operation.{Operation}
 use Rattle.model_state.specs.declared.operation.Operation.TheVariants.{Simple, Composite}
 use Rattle.op_form.specs.declared.event.Event.{Event}
-use Rattle.op_form.specs.declared.event.Event.TheVariants.{Init, Checkout, Edit, Begin, End, Undo, Discard, Tidy, Commit, Branch, Tag, Update, Merge, Drop, Evolve, Upgrade, Signed}
+use Rattle.op_form.specs.declared.event.Event.TheVariants.{Init, Checkout, Edit, Begin, End, Undo, Discard, Tidy, Commit, Branch, Tag, Update, Merge}
+use Rattle.op_form.specs.declared.event.Event.TheVariants.{Drop, Evolve, Upgrade, Signed}
 
 -- ---- definitions
 -- a number of 32 bits

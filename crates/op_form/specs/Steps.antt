@@ -18,5 +18,7 @@ step_encoding (RerankRow a f b old new) = 7 ∷ (text_encoding a ++ (u32_encodin
 step_encoding (New e class place rank) = 8 ∷ (text_encoding e ++ (u32_encoding class ++ (place_encoding place ++ u64_encoding rank)))
 step_encoding (Gone e class place rank) = 9 ∷ (text_encoding e ++ (u32_encoding class ++ (place_encoding place ++ u64_encoding rank)))
 step_encoding (Move e from from_rank to to_rank above_from above_to) =
-    10 ∷ (text_encoding e ++ (place_encoding from ++ (u64_encoding from_rank ++ (place_encoding to ++ (u64_encoding to_rank ++ (list_encoding text_encoding above_from ++ list_encoding text_encoding above_to))))))
+    10 ∷ (text_encoding e ++ (place_encoding from
+    ++ (u64_encoding from_rank
+    ++ (place_encoding to ++ (u64_encoding to_rank ++ (list_encoding text_encoding above_from ++ list_encoding text_encoding above_to))))))
 step_encoding (RerankPlace e old new) = 11 ∷ (text_encoding e ++ (u64_encoding old ++ u64_encoding new))

@@ -1,5 +1,6 @@
 -- Readings that undo encodings, put together from those of their fields.
-use Rattle.std.proofs.Common.{◌≡◌, ◌⊎◌, inl, inr, ℕ, zero, suc, ◌+◌, ◌<◌, ◌≤◌, List, [], ◌∷◌, ◌++◌, All, length, Bool, true, false, cond, nat_eq, nat_lt, Some, None, Result, Ok, Err, refl, sym, ap, subst, ◌∙◌, append_assoc, append-nil, length-append, arith}
+use Rattle.std.proofs.Common.{◌≡◌, ◌⊎◌, inl, inr, ℕ, zero, suc, ◌+◌, ◌<◌, ◌≤◌, List, [], ◌∷◌, ◌++◌, All, length, Bool, true, false, cond, nat_eq}
+use Rattle.std.proofs.Common.{nat_lt, Some, None, Result, Ok, Err, refl, sym, ap, subst, ◌∙◌, append_assoc, append-nil, length-append, arith}
 use Rattle.std.proofs.lemmas.Bool.{eqb-true, le-leb}
 use Rattle.std.proofs.lemmas.List.{get_or-append-add}
 use Rattle.std.proofs.lemmas.List.Elements.{All-cons}
@@ -8,10 +9,12 @@ use Rattle.byte_form.specs.declared.reader.ReadFault.TheVariants.{Spare}
 use Rattle.byte_form.specs.Rest.{Rest}
 use Rattle.byte_form.specs.Fields.{◌>>=◌, byte_at, text_encoding, ends_at, u32_encoding, u64_encoding}
 use Rattle.byte_form.specs.Laws.{at, IsReadAgain, IsSpelledSo, StoodThere, AreBytes, IsBelow, IsShortText, byte_encoding}
-use Rattle.byte_form.proofs.FieldLemmas.{reached, ok_is, stands, byte_again, byte_spelled, u32_again, u32_spelled, u64_again, u64_spelled, text_again, text_spelled}
+use Rattle.byte_form.proofs.FieldLemmas.{reached, ok_is, stands, byte_again, byte_spelled, u32_again, u32_spelled, u64_again, u64_spelled, text_again}
+use Rattle.byte_form.proofs.FieldLemmas.{text_spelled}
 use Rattle.op_reading.specs.declared.fault.FormFault.{FormFault}
 use Rattle.op_reading.specs.declared.fault.FormFault.TheVariants.{NotForm}
-use Rattle.op_reading.specs.Reading.{Reading, field, made, ◌⊗◌, nothing_at, u8_at, u32_at, u64_at, any_text_at, option_at, option_of, items_at, list_at, some_at}
+use Rattle.op_reading.specs.Reading.{Reading, field, made, ◌⊗◌, nothing_at, u8_at, u32_at, u64_at, any_text_at, option_at, option_of, items_at}
+use Rattle.op_reading.specs.Reading.{list_at, some_at}
 use Rattle.op_form.specs.Lists.{option_encoding, items_encoding, list_encoding}
 use Rattle.op_reading.specs.Events.{whole_of}
 use Rattle.op_reading.specs.Laws.{AreReadAgain, AreSpelledSo, MoreIsLeftOver}
@@ -32,7 +35,8 @@ either true p q r e = inl (refl, e)
 either false p q r e = inr (refl, e)
 
 -- what makes a value was read
-pub made_back : {X Y : Type 0} (make : X → Y) (r : Result (X × Rest) FormFault) (y : Y) (after : Rest) → made make r ≡ Ok (y, after) → (x : X) × (r ≡ Ok (x, after)) × (make x ≡ y)
+pub made_back : {X Y : Type 0} (make : X → Y) (r : Result (X × Rest) FormFault) (y : Y) (after : Rest) → made make r ≡ Ok (y, after)
+    → (x : X) × (r ≡ Ok (x, after)) × (make x ≡ y)
 made_back make (Ok x) y after e =
     let pair = ok_is (make x.0, x.1) (y, after) e in
     (x.0, ap (λ p. Ok (x.0, p.1)) pair, ap (λ p. p.0) pair)
@@ -43,7 +47,8 @@ field_back (Ok y) x e = ap (λ z. Ok z) (ok_is y x e)
 field_back (Err f) x e = cc
 
 -- a field that byte_form reads
-pub of_field : {X : Type 0} {Is : X → Type 0} {form : X → List ℕ} {read : Rest → Result (X × Rest) ReadFault} → IsReadAgain Is form read → IsSpelledSo Is form read → Codes Is form (λ r. field (read r))
+pub of_field : {X : Type 0} {Is : X → Type 0} {form : X → List ℕ} {read : Rest → Result (X × Rest) ReadFault} → IsReadAgain Is form read
+    → IsSpelledSo Is form read → Codes Is form (λ r. field (read r))
 of_field {read} again spelled = record {
   again = λ x is rest place. ap field (again x is rest place);
   spelled = λ before bytes x after e. spelled before bytes x after (field_back (read before) (x, after) e);
@@ -53,7 +58,9 @@ of_field {read} again spelled = record {
 pub nothing_codes : Codes (λ (t : Unit {0}). Unit {0}) (λ t. []) nothing_at
 nothing_codes = record {
   again = λ x is rest place. ap (λ k. Ok (tt, at rest k)) (omega arith);
-  spelled = λ before bytes x after e. stands (λ (t : Unit {0}). Unit {0}) (λ t. []) before before after tt x (ok_is (tt, before) (x, after) e) (record { is = tt; bytes = refl; place = omega arith });
+  spelled = λ before bytes x after e.
+      stands (λ (t : Unit {0}). Unit {0}) (λ t. []) before before after tt x (ok_is (tt, before) (x, after) e)
+      (record { is = tt; bytes = refl; place = omega arith });
 }
 
 pub u8_codes : Codes (IsBelow 256) byte_encoding u8_at
@@ -101,11 +108,14 @@ tagged_again form read tag x rest place e = e ∙ ap (λ k. Ok (x, at rest k)) (
 
 -- a kind of values that is made of others, after its kind's byte
 module _ {X Y : Type 0} {Is : X → Type 0} {form : X → List ℕ} {read : Reading X} (codes : Codes Is form read) (make : X → Y) (tag : ℕ) where
-  pub made_again : (x : X) → Is x → (rest : List ℕ) (place : ℕ) → made make (read (at (form x ++ rest) (place + 1))) ≡ Ok (make x, at rest (place + length (tag ∷ form x)))
+  pub made_again : (x : X) → Is x → (rest : List ℕ) (place : ℕ)
+      → made make (read (at (form x ++ rest) (place + 1))) ≡ Ok (make x, at rest (place + length (tag ∷ form x)))
   made_again x is rest place = ap (made make) (codes.again x is rest (place + 1)) ∙ ap (λ k. Ok (make x, at rest k)) (omega arith)
 
-  pub made_spelled : (IsY : Y → Type 0) (form_y : Y → List ℕ) → ((x : X) → Is x → IsY (make x)) → ((x : X) → Is x → form_y (make x) ≡ tag ∷ form x) → (before mid after : Rest) (y : Y)
-      → AreBytes before.bytes → StoodThere (IsBelow 256) byte_encoding before mid tag → made make (read mid) ≡ Ok (y, after) → StoodThere IsY form_y before after y
+  pub made_spelled : (IsY : Y → Type 0) (form_y : Y → List ℕ) → ((x : X) → Is x → IsY (make x)) → ((x : X) → Is x → form_y (make x) ≡ tag ∷ form x)
+      → (before mid after : Rest) (y : Y)
+      → AreBytes before.bytes → StoodThere (IsBelow 256) byte_encoding before mid tag → made make (read mid) ≡ Ok (y, after)
+      → StoodThere IsY form_y before after y
   made_spelled IsY form_y is_made form_made before mid after y bytes t e =
       let m = made_back make (read mid) y after e in
       let s = codes.spelled mid (are_bytes_behind (tag ∷ []) mid.bytes (subst AreBytes t.bytes bytes)) m.0 after m.1 in
@@ -118,14 +128,22 @@ module _ {X Y : Type 0} {Is : X → Type 0} {form : X → List ℕ} {read : Read
 
 -- a value of no fields, after its byte
 pub lone_spelled : {Y : Type 0} (IsY : Y → Type 0) (form_y : Y → List ℕ) (tag : ℕ) (y : Y) → IsY y → form_y y ≡ tag ∷ [] → (before mid after : Rest) (z : Y)
-    → StoodThere (IsBelow 256) byte_encoding before mid tag → ◌≡◌ {A = Result (Y × Rest) FormFault} (Ok (y, mid)) (Ok (z, after)) → StoodThere IsY form_y before after z
+    → StoodThere (IsBelow 256) byte_encoding before mid tag → ◌≡◌ {A = Result (Y × Rest) FormFault} (Ok (y, mid)) (Ok (z, after))
+    → StoodThere IsY form_y before after z
 lone_spelled IsY form_y tag y is form_is before mid after z t e =
     stands IsY form_y before mid after y z (ok_is (y, mid) (z, after) e)
-    (record { is = is; bytes = t.bytes ∙ ap (λ spelling. spelling ++ mid.bytes) (sym form_is); place = t.place ∙ ap (λ spelling. before.place + length spelling) (sym form_is) })
+    (record {
+      is = is;
+      bytes = t.bytes ∙ ap (λ spelling. spelling ++ mid.bytes) (sym form_is);
+      place =
+          t.place ∙ ap (λ spelling. before.place + length spelling) (sym form_is);
+    })
 
 -- the byte that was read, where it is found to be a number
-pub byte_stood : (before : Rest) (n : ℕ) (mid : Rest) → AreBytes before.bytes → u8_at before ≡ Ok (n, mid) → (tag : ℕ) → nat_eq n tag ≡ true → StoodThere (IsBelow 256) byte_encoding before mid tag
-byte_stood before n mid bytes e tag is = subst (λ k. StoodThere (IsBelow 256) byte_encoding before mid k) (eqb-true n tag is) (u8_codes.spelled before bytes n mid e)
+pub byte_stood : (before : Rest) (n : ℕ) (mid : Rest) → AreBytes before.bytes → u8_at before ≡ Ok (n, mid) → (tag : ℕ) → nat_eq n tag ≡ true
+    → StoodThere (IsBelow 256) byte_encoding before mid tag
+byte_stood before n mid bytes e tag is =
+    subst (λ k. StoodThere (IsBelow 256) byte_encoding before mid k) (eqb-true n tag is) (u8_codes.spelled before bytes n mid e)
 
 -- nothing is left where the end was read
 ended : (bytes : List ℕ) (place : ℕ) → ◌≡◌ {A = Result (Unit {0}) FormFault} (field (ends_at (at bytes place))) (Ok tt) → bytes ≡ []
@@ -148,7 +166,8 @@ module _ {X : Type 0} {Is : X → Type 0} {form : X → List ℕ} {read : Readin
       elim (either (nat_eq k.0.0 0) (Ok (None, k.0.1)) _ (Ok (o, after)) k.2) [
         | inl h ↦ lone_spelled (IsGiven Is) (option_encoding form) 0 None tt refl before k.0.1 after o (byte_stood before k.0.0 k.0.1 bytes k.1 0 h.0) h.1
         | inr h ↦ elim (either (nat_eq k.0.0 1) (made (λ x. Some x) (read k.0.1)) (Err (NotForm before.place)) (Ok (o, after)) h.1) [
-          | inl i ↦ made_spelled codes (λ x. Some x) 1 (IsGiven Is) (option_encoding form) (λ x is. is) (λ x is. refl) before k.0.1 after o bytes (byte_stood before k.0.0 k.0.1 bytes k.1 1 i.0) i.1
+          | inl i ↦ made_spelled codes (λ x. Some x) 1 (IsGiven Is) (option_encoding form) (λ x is. is) (λ x is. refl) before k.0.1 after o bytes
+              (byte_stood before k.0.0 k.0.1 bytes k.1 1 i.0) i.1
           | inr i ↦ cc
         ]
       ]
@@ -156,11 +175,13 @@ module _ {X : Type 0} {Is : X → Type 0} {form : X → List ℕ} {read : Readin
   pub option_codes : Codes (IsGiven Is) (option_encoding form) (option_at read)
   option_codes = record { again = option_again; spelled = option_spelled }
 
-  items_again : (xs : List X) → All Is xs → (rest : List ℕ) (place : ℕ) → items_at read (length xs) (at (items_encoding form xs ++ rest) place) ≡ Ok (xs, at rest (place + length (items_encoding form xs)))
+  items_again : (xs : List X) → All Is xs → (rest : List ℕ) (place : ℕ)
+      → items_at read (length xs) (at (items_encoding form xs ++ rest) place) ≡ Ok (xs, at rest (place + length (items_encoding form xs)))
   items_again [] all rest place = ap (λ k. Ok ([], at rest k)) (omega arith)
   items_again (x ∷ xs) all rest place =
       ap (λ bytes. items_at read (suc (length xs)) (at bytes place)) (append_assoc (form x) (items_encoding form xs) rest)
-      ∙ ap (λ r. r >>= λ y. made (λ ys. y.0 ∷ ys) (items_at read (length xs) y.1)) (codes.again x (all 0 x (omega arith)) (items_encoding form xs ++ rest) place)
+      ∙ ap (λ r. r >>= λ y. made (λ ys. y.0 ∷ ys) (items_at read (length xs) y.1))
+      (codes.again x (all 0 x (omega arith)) (items_encoding form xs ++ rest) place)
       ∙ ap (made (λ ys. x ∷ ys)) (items_again xs (λ k d lt. all (suc k) d (omega (arith, lt))) rest (place + length (form x)))
       ∙ ap (λ k. Ok (x ∷ xs, at rest k)) (omega (arith, length-append (form x) (items_encoding form xs)))
 
@@ -171,7 +192,8 @@ module _ {X : Type 0} {Is : X → Type 0} {form : X → List ℕ} {read : Readin
     bytes : before.bytes ≡ items_encoding form xs ++ after.bytes
     place : after.place ≡ before.place + length (items_encoding form xs)
 
-  items_spelled : (n : ℕ) (before : Rest) → AreBytes before.bytes → (xs : List X) (after : Rest) → items_at read n before ≡ Ok (xs, after) → ItemsStood n before after xs
+  items_spelled : (n : ℕ) (before : Rest) → AreBytes before.bytes → (xs : List X) (after : Rest) → items_at read n before ≡ Ok (xs, after)
+      → ItemsStood n before after xs
   items_spelled zero before bytes xs after e =
       let pair = ok_is ([], before) (xs, after) e in
       subst (λ p. ItemsStood 0 before p.1 p.0) pair (record { count = refl; all = λ k d lt. absurd (omega (arith, lt)); bytes = refl; place = omega arith })
@@ -191,9 +213,14 @@ module _ {X : Type 0} {Is : X → Type 0} {form : X → List ℕ} {read : Readin
   -- a list's count and its items, as both lists and lists that aren't empty have them
   counted_again : (xs : List X) → IsList Is xs → (rest : List ℕ) (place : ℕ)
       → (u32_at (at (list_encoding form xs ++ rest) place) ≡ Ok (length xs, at (items_encoding form xs ++ rest) (place + length (u32_encoding (length xs)))))
-      × (items_at read (length xs) (at (items_encoding form xs ++ rest) (place + length (u32_encoding (length xs)))) ≡ Ok (xs, at rest (place + length (list_encoding form xs))))
-  counted_again xs is rest place =
-      (ap (λ bytes. u32_at (at bytes place)) (append_assoc (u32_encoding (length xs)) (items_encoding form xs) rest) ∙ u32_codes.again (length xs) is.0 (items_encoding form xs ++ rest) place, items_again xs is.1 rest (place + length (u32_encoding (length xs))) ∙ ap (λ k. Ok (xs, at rest k)) (omega (arith, length-append (u32_encoding (length xs)) (items_encoding form xs))))
+      × (items_at read (length xs) (at (items_encoding form xs ++ rest) (place + length (u32_encoding (length xs)))) ≡ Ok
+      (xs, at rest (place + length (list_encoding form xs))))
+  counted_again xs is rest place = (
+    ap (λ bytes. u32_at (at bytes place)) (append_assoc (u32_encoding (length xs)) (items_encoding form xs) rest)
+        ∙ u32_codes.again (length xs) is.0 (items_encoding form xs ++ rest) place,
+    items_again xs is.1 rest (place + length (u32_encoding (length xs)))
+        ∙ ap (λ k. Ok (xs, at rest k)) (omega (arith, length-append (u32_encoding (length xs)) (items_encoding form xs))),
+  )
 
   counted_spelled : (before mid after : Rest) (n : ℕ) (xs : List X) → AreBytes before.bytes → u32_at before ≡ Ok (n, mid) → items_at read n mid ≡ Ok (xs, after)
       → StoodThere (IsList Is) (list_encoding form) before after xs × (length xs ≡ n)
@@ -235,7 +262,8 @@ module _ {X : Type 0} {Is : X → Type 0} {form : X → List ℕ} {read : Readin
   some_again xs is rest place =
       let k = counted_again xs (is.1, is.2) rest place in
       ap (λ r. r >>= λ count. cond (nat_eq count.0 0) (Err (NotForm place)) (items_at read count.0 count.1)) k.0
-      ∙ ap (λ b. cond b (Err (NotForm place)) (items_at read (length xs) (at (items_encoding form xs ++ rest) (place + length (u32_encoding (length xs)))))) (some_count (length xs) is.0)
+      ∙ ap (λ b. cond b (Err (NotForm place))
+      (items_at read (length xs) (at (items_encoding form xs ++ rest) (place + length (u32_encoding (length xs)))))) (some_count (length xs) is.0)
       ∙ k.1
 
   some_spelled : IsSpelledSo (IsSomeList Is) (list_encoding form) (some_at read)
@@ -256,7 +284,8 @@ module _ {X : Type 0} {Is : X → Type 0} {form : X → List ℕ} {read : Readin
   pub whole_again : AreReadAgain Is form (whole_of read)
   unfolding whole_of
   whole_again x is =
-      let r : read (at (form x) 0) ≡ Ok (x, at [] (0 + length (form x))) = ap (λ bytes. read (at bytes 0)) (sym (append-nil (form x))) ∙ codes.again x is [] 0 in
+      let r : read (at (form x) 0) ≡ Ok (x, at [] (0 + length (form x))) =
+      ap (λ bytes. read (at bytes 0)) (sym (append-nil (form x))) ∙ codes.again x is [] 0 in
       rw r refl
 
   pub whole_spelled : AreSpelledSo Is form (whole_of read)
@@ -275,7 +304,8 @@ module _ {X : Type 0} {Is : X → Type 0} {form : X → List ℕ} {read : Readin
       let e = codes.again x is (byte ∷ more) 0 in
       ap (λ r. r >>= λ x. field (ends_at x.1) >>= λ end. Ok x.0) e ∙ spare byte more (0 + length (form x)) ∙ ap (λ n. Err (NotForm n)) (omega arith)
     where
-      spare : (byte : ℕ) (more : List ℕ) (place : ℕ) → ◌≡◌ {A = Result X FormFault} (field (ends_at (at (byte ∷ more) place)) >>= λ end. Ok x) (Err (NotForm place))
+      spare : (byte : ℕ) (more : List ℕ) (place : ℕ)
+          → ◌≡◌ {A = Result X FormFault} (field (ends_at (at (byte ∷ more) place)) >>= λ end. Ok x) (Err (NotForm place))
       spare byte more place =
           let left : nat_lt 0 (length (byte ∷ more)) ≡ true = le-leb 1 (length (byte ∷ more)) (omega arith) in
           ap (λ t. field (cond t (Err (Spare place)) (Ok tt)) >>= λ end. Ok x) left

@@ -5,9 +5,11 @@ use Rattle.byte_form.specs.Fields.{byte_at}
 use Rattle.byte_form.specs.Laws.{IsReadAgain, IsSpelledSo, StoodThere, AreBytes, IsBelow, byte_encoding}
 use Rattle.byte_form.proofs.FieldLemmas.{reached}
 use Rattle.op_form.specs.declared.event.Event.{Event}
-use Rattle.op_form.specs.declared.event.Event.TheVariants.{Init, Checkout, Edit, Begin, End, Undo, Discard, Tidy, Commit, Branch, Tag, Update, Merge, Drop, Evolve, Upgrade, Signed}
+use Rattle.op_form.specs.declared.event.Event.TheVariants.{Init, Checkout, Edit, Begin, End, Undo, Discard, Tidy, Commit, Branch, Tag, Update, Merge}
+use Rattle.op_form.specs.declared.event.Event.TheVariants.{Drop, Evolve, Upgrade, Signed}
 use Rattle.op_reading.specs.Reading.{Reading, made, u8_at}
-use Rattle.op_reading.specs.Events.{init_at, checkout_at, edit_at, begin_at, commit_at, branch_at, tag_at, update_at, merge_at, evolve_at, upgrade_at, signed_at, events_by_kind, chosen, event_at}
+use Rattle.op_reading.specs.Events.{init_at, checkout_at, edit_at, begin_at, commit_at, branch_at, tag_at, update_at, merge_at, evolve_at, upgrade_at}
+use Rattle.op_reading.specs.Events.{signed_at, events_by_kind, chosen, event_at}
 use Rattle.op_form.specs.Events.{event_encoding}
 use Rattle.op_form.specs.Formed.{IsEvent}
 use Rattle.op_reading.specs.Laws.{EventsAreTested}
@@ -35,13 +37,15 @@ event_again (Drop ws) is rest place = made_again u32_codes (λ ws. Drop ws) 14 w
 event_again (Evolve text) is rest place = made_again text_codes (λ t. Evolve t) 15 text is rest place
 event_again Upgrade is rest place = made_again nothing_codes (λ t. Upgrade) 16 tt is rest place
 event_again (Signed ws author moment message) is rest place =
-    made_again (both u32_codes (both text_codes (both u64_codes text_codes))) (λ t. Signed t.0 t.1.0 t.1.1.0 t.1.1.1) 17 (ws, (author, (moment, message))) is rest place
+    made_again (both u32_codes (both text_codes (both u64_codes text_codes))) (λ t. Signed t.0 t.1.0 t.1.1.0 t.1.1.1) 17
+    (ws, (author, (moment, message))) is rest place
 
 -- a kind's byte, how its fields are read, and that an event of the kind stood where they are read after that byte
 record Row : Type 0 where
   tag : ℕ
   read : Reading Event
-  spelled : (before mid after : Rest) (event : Event) → AreBytes before.bytes → StoodThere (IsBelow 256) byte_encoding before mid tag → read mid ≡ Ok (event, after)
+  spelled : (before mid after : Rest) (event : Event) → AreBytes before.bytes → StoodThere (IsBelow 256) byte_encoding before mid tag
+      → read mid ≡ Ok (event, after)
       → StoodThere IsEvent event_encoding before after event
 
 abbrev known : {X : Type 0} {Is : X → Type 0} {form : X → List ℕ} {read : Reading X} → Codes Is form read → (make : X → Event) (tag : ℕ)
@@ -88,7 +92,8 @@ event_spelled before bytes event after e =
     known u32_codes (λ t. Drop t) 14 (λ t is. is) (λ t is. refl) ∷
     known text_codes (λ t. Evolve t) 15 (λ t is. is) (λ t is. refl) ∷
     known nothing_codes (λ t. Upgrade) 16 (λ t is. is) (λ t is. refl) ∷
-    known (both u32_codes (both text_codes (both u64_codes text_codes))) (λ t. Signed t.0 t.1.0 t.1.1.0 t.1.1.1) 17 (λ t is. is) (λ t is. refl) ∷ []) before k.0.1 after event k.0.0 bytes stood k.2
+    known (both u32_codes (both text_codes (both u64_codes text_codes))) (λ t. Signed t.0 t.1.0 t.1.1.0 t.1.1.1) 17 (λ t is. is) (λ t is. refl) ∷ [])
+    before k.0.1 after event k.0.0 bytes stood k.2
 
 pub event_codes : Codes IsEvent event_encoding event_at
 event_codes = record { again = event_again; spelled = event_spelled }

@@ -1,5 +1,6 @@
 -- Operations and packages: read again, and spelled so.
-use Rattle.std.proofs.Common.{◌≡◌, inl, inr, ℕ, suc, zero, ◌<◌, List, [], ◌∷◌, length, ◌&&◌, true, nat_eq, nat_le, Option, Some, None, Ok, Err, refl, ap, subst, arith, IsAscii}
+use Rattle.std.proofs.Common.{◌≡◌, inl, inr, ℕ, suc, zero, ◌<◌, List, [], ◌∷◌, length, ◌&&◌, true, nat_eq, nat_le, Option, Some, None, Ok, Err, refl}
+use Rattle.std.proofs.Common.{ap, subst, arith, IsAscii}
 use Rattle.std.specs.List.{list_all}
 use Rattle.std.specs.Char.{is_ascii_alphabetic}
 use Rattle.std.proofs.lemmas.Bool.{leb-true}
@@ -30,7 +31,8 @@ kind_again kinds.ManyAttribute is rest place = refl
 kind_again kinds.Reference is rest place = refl
 kind_again kinds.Move is rest place = refl
 
-kind_found : (place : ℕ) (o : Option OpKind) (mid : Rest) (kind : OpKind) (after : Rest) → kind_from place o mid ≡ Ok (kind, after) → (o ≡ Some kind) × (mid ≡ after)
+kind_found : (place : ℕ) (o : Option OpKind) (mid : Rest) (kind : OpKind) (after : Rest) → kind_from place o mid ≡ Ok (kind, after)
+    → (o ≡ Some kind) × (mid ≡ after)
 kind_found place None mid kind after e = cc
 kind_found place (Some k) mid kind after e = let pair = ok_is (k, mid) (kind, after) e in (ap (λ p. Some p.0) pair, ap (λ p. p.1) pair)
 
@@ -38,7 +40,8 @@ some_kind : (kind other : OpKind) → Some kind ≡ Some other → kind ≡ othe
 some_kind kind other e = cc
 
 -- the kind of a byte has that byte
-kind_stood : (before : Rest) (n : ℕ) (mid : Rest) → ((tag : ℕ) → nat_eq n tag ≡ true → StoodThere (IsBelow 256) byte_encoding before mid tag) → (kind : OpKind) → kind_of n ≡ Some kind
+kind_stood : (before : Rest) (n : ℕ) (mid : Rest) → ((tag : ℕ) → nat_eq n tag ≡ true → StoodThere (IsBelow 256) byte_encoding before mid tag)
+    → (kind : OpKind) → kind_of n ≡ Some kind
     → StoodThere (λ k. Unit {0}) kind_encoding before mid kind
 kind_stood before n mid stood kind e =
     elim (either (nat_eq n 1) (Some kinds.Create) _ (Some kind) e) [
@@ -61,7 +64,8 @@ kind_stood before n mid stood kind e =
       ]
     ]
   where
-    one : (known : OpKind) → known ≡ kind → StoodThere (IsBelow 256) byte_encoding before mid (kind_byte known) → StoodThere (λ k. Unit {0}) kind_encoding before mid kind
+    one : (known : OpKind) → known ≡ kind → StoodThere (IsBelow 256) byte_encoding before mid (kind_byte known)
+        → StoodThere (λ k. Unit {0}) kind_encoding before mid kind
     one known same s = subst (λ k. StoodThere (λ k. Unit {0}) kind_encoding before mid k) same (record { is = tt; bytes = s.bytes; place = s.place })
 
 kind_spelled : IsSpelledSo (λ kind. Unit {0}) kind_encoding kind_at
@@ -111,7 +115,8 @@ name_codes = record { again = name_again; spelled = name_spelled }
 operation_again : IsReadAgain IsOperation operation_encoding operation_at
 unfolding operation_at operation_encoding simple_at composite_at byte_at
 operation_again (Simple kind steps) is rest place = made_again (both kind_codes (some_codes step_codes)) (λ t. Simple t.0 t.1) 1 (kind, steps) is rest place
-operation_again (Composite name steps) is rest place = made_again (both name_codes (some_codes step_codes)) (λ t. Composite t.0 t.1) 2 (name, steps) is rest place
+operation_again (Composite name steps) is rest place =
+    made_again (both name_codes (some_codes step_codes)) (λ t. Composite t.0 t.1) 2 (name, steps) is rest place
 
 operation_spelled : IsSpelledSo IsOperation operation_encoding operation_at
 unfolding operation_at operation_encoding simple_at composite_at
@@ -119,9 +124,11 @@ operation_spelled before bytes o after e =
     let k = reached (u8_at before) (operation_of before.place) (o, after) e in
     let stood = byte_stood before k.0.0 k.0.1 bytes k.1 in
     elim (either (nat_eq k.0.0 1) (simple_at k.0.1) _ (Ok (o, after)) k.2) [
-      | inl h ↦ made_spelled (both kind_codes (some_codes step_codes)) (λ t. Simple t.0 t.1) 1 IsOperation operation_encoding (λ t is. is) (λ t is. refl) before k.0.1 after o bytes (stood 1 h.0) h.1
+      | inl h ↦ made_spelled (both kind_codes (some_codes step_codes)) (λ t. Simple t.0 t.1) 1 IsOperation operation_encoding (λ t is. is)
+          (λ t is. refl) before k.0.1 after o bytes (stood 1 h.0) h.1
       | inr h ↦ elim (either (nat_eq k.0.0 2) (composite_at k.0.1) (Err (NotForm before.place)) (Ok (o, after)) h.1) [
-        | inl i ↦ made_spelled (both name_codes (some_codes step_codes)) (λ t. Composite t.0 t.1) 2 IsOperation operation_encoding (λ t is. is) (λ t is. refl) before k.0.1 after o bytes (stood 2 i.0) i.1
+        | inl i ↦ made_spelled (both name_codes (some_codes step_codes)) (λ t. Composite t.0 t.1) 2 IsOperation operation_encoding (λ t is. is)
+            (λ t is. refl) before k.0.1 after o bytes (stood 2 i.0) i.1
         | inr i ↦ cc
       ]
     ]

@@ -1,5 +1,6 @@
 -- Ids, values and places: read again, and spelled so.
-use Rattle.std.proofs.Common.{◌≡◌, inl, inr, ℕ, zero, suc, ◌+◌, ◌<◌, ◌≤◌, ◌^◌, ℤ, pos, negsuc, FitsSigned, List, [], ◌∷◌, ◌++◌, length, Bool, ◌&&◌, true, false, cond, nat_eq, nat_lt, nat_le, Ok, Err, refl, ap, subst, ◌∙◌, arith, IsAscii}
+use Rattle.std.proofs.Common.{◌≡◌, inl, inr, ℕ, zero, suc, ◌+◌, ◌<◌, ◌≤◌, ◌^◌, ℤ, pos, negsuc, FitsSigned, List, [], ◌∷◌, ◌++◌, length, Bool, ◌&&◌}
+use Rattle.std.proofs.Common.{true, false, cond, nat_eq, nat_lt, nat_le, Ok, Err, refl, ap, subst, ◌∙◌, arith, IsAscii}
 use Rattle.std.specs.Int.{w64, cast_signed, cast_unsigned}
 use Rattle.std.proofs.lemmas.Int.{to_z-of_z, of_z-to_z}
 use Rattle.std.proofs.lemmas.Bool.{leb-true}
@@ -22,19 +23,22 @@ use Rattle.op_reading.proofs.Codes.{Codes, both, either, u32_codes, u64_codes, t
 
 -- texts that pass a test, where these are short texts
 module _ (test : List ℕ → Bool) (short : (text : List ℕ) → test text ≡ true → IsShortText text) (read : Reading (List ℕ)) where
-  pub told_again : (text : List ℕ) → test text ≡ true → (rest : List ℕ) (place : ℕ) → (any_text_at (at (text_encoding text ++ rest) place) >>= tested_text test place) ≡ Ok (text, at rest (place + length (text_encoding text)))
+  pub told_again : (text : List ℕ) → test text ≡ true → (rest : List ℕ) (place : ℕ)
+      → (any_text_at (at (text_encoding text ++ rest) place) >>= tested_text test place) ≡ Ok (text, at rest (place + length (text_encoding text)))
   told_again text is rest place =
       ap (λ r. r >>= tested_text test place) (text_codes.again text (short text is) rest place)
       ∙ ap (λ b. cond b (Ok (text, at rest (place + length (text_encoding text)))) (Err (NotForm place))) is
 
-  pub told_spelled : (before : Rest) → AreBytes before.bytes → (text : List ℕ) (after : Rest) → (any_text_at before >>= tested_text test before.place) ≡ Ok (text, after)
+  pub told_spelled : (before : Rest) → AreBytes before.bytes → (text : List ℕ) (after : Rest)
+      → (any_text_at before >>= tested_text test before.place) ≡ Ok (text, after)
       → StoodThere (λ t. test t ≡ true) text_encoding before after text
   told_spelled before bytes text after e =
       let k = reached (any_text_at before) (tested_text test before.place) (text, after) e in
       elim (either (test k.0.0) (Ok k.0) (Err (NotForm before.place)) (Ok (text, after)) k.2) [
         | inl h ↦
             let s = text_codes.spelled before bytes k.0.0 k.0.1 k.1 in
-            stands (λ t. test t ≡ true) text_encoding before k.0.1 after k.0.0 text (ok_is k.0 (text, after) h.1) (record { is = h.0; bytes = s.bytes; place = s.place })
+            stands (λ t. test t ≡ true) text_encoding before k.0.1 after k.0.0 text (ok_is k.0 (text, after) h.1)
+            (record { is = h.0; bytes = s.bytes; place = s.place })
         | inr h ↦ cc
       ]
 
@@ -94,13 +98,21 @@ flag_spelled before bytes v after e =
     elim (either (nat_eq k.0.0 0) (Ok (Flag false, k.0.1)) _ (Ok (v, after)) k.2) [
       | inl h ↦
           let pair = ok_is (Flag false, k.0.1) (v, after) h.1 in
-          let s = stood 0 h.0 in
-          (false, ap (λ p. p.0) pair, subst (λ r. StoodThere (λ b. Unit {0}) flag_encoding before r false) (ap (λ p. p.1) pair) (record { is = tt; bytes = s.bytes; place = s.place }))
+          let s = stood 0 h.0 in (
+            false,
+            ap (λ p. p.0) pair,
+            subst (λ r. StoodThere (λ b. Unit {0}) flag_encoding before r false) (ap (λ p. p.1) pair)
+                (record { is = tt; bytes = s.bytes; place = s.place }),
+          )
       | inr h ↦ elim (either (nat_eq k.0.0 1) (Ok (Flag true, k.0.1)) (Err (NotForm before.place)) (Ok (v, after)) h.1) [
         | inl i ↦
             let pair = ok_is (Flag true, k.0.1) (v, after) i.1 in
-            let s = stood 1 i.0 in
-            (true, ap (λ p. p.0) pair, subst (λ r. StoodThere (λ b. Unit {0}) flag_encoding before r true) (ap (λ p. p.1) pair) (record { is = tt; bytes = s.bytes; place = s.place }))
+            let s = stood 1 i.0 in (
+              true,
+              ap (λ p. p.0) pair,
+              subst (λ r. StoodThere (λ b. Unit {0}) flag_encoding before r true) (ap (λ p. p.1) pair)
+                  (record { is = tt; bytes = s.bytes; place = s.place }),
+            )
         | inr i ↦ cc
       ]
     ]
@@ -158,7 +170,8 @@ place_spelled before bytes p after e =
     elim (either (nat_eq k.0.0 0) (Ok (Root, k.0.1)) _ (Ok (p, after)) k.2) [
       | inl h ↦ lone_spelled IsPlace place_encoding 0 Root tt refl before k.0.1 after p (stood 0 h.0) h.1
       | inr h ↦ elim (either (nat_eq k.0.0 1) (made (λ t. Inside t.0 t.1) ((id_at ⊗ u32_at) k.0.1)) (Err (NotForm before.place)) (Ok (p, after)) h.1) [
-        | inl i ↦ made_spelled (both id_codes u32_codes) (λ t. Inside t.0 t.1) 1 IsPlace place_encoding (λ t is. is) (λ t is. refl) before k.0.1 after p bytes (stood 1 i.0) i.1
+        | inl i ↦ made_spelled (both id_codes u32_codes) (λ t. Inside t.0 t.1) 1 IsPlace place_encoding (λ t is. is)
+            (λ t is. refl) before k.0.1 after p bytes (stood 1 i.0) i.1
         | inr i ↦ cc
       ]
     ]

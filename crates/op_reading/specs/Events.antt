@@ -5,7 +5,8 @@ use Rattle.byte_form.specs.Fields.{◌>>=◌, ends_at}
 use Rattle.op_reading.specs.declared.fault.FormFault.{FormFault}
 use Rattle.op_reading.specs.declared.fault.FormFault.TheVariants.{NotForm}
 use Rattle.op_form.specs.declared.event.Event.{Event}
-use Rattle.op_form.specs.declared.event.Event.TheVariants.{Init, Checkout, Edit, Begin, End, Undo, Discard, Tidy, Commit, Branch, Tag, Update, Merge, Drop, Evolve, Upgrade, Signed}
+use Rattle.op_form.specs.declared.event.Event.TheVariants.{Init, Checkout, Edit, Begin, End, Undo, Discard, Tidy, Commit, Branch, Tag, Update, Merge}
+use Rattle.op_form.specs.declared.event.Event.TheVariants.{Drop, Evolve, Upgrade, Signed}
 use Rattle.op_reading.specs.Reading.{Reading, made, ◌⊗◌, field, nothing_at, u8_at, u32_at, u64_at, any_text_at}
 use Rattle.op_reading.specs.Packages.{package_at}
 

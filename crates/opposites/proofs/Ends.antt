@@ -19,7 +19,8 @@ use Rattle.opposites.proofs.SpotLaws.{no_reranks, nothing_added}
 use Rattle.model_state.specs.Ranks.{rank_gap}
 
 -- where there is a rank after the last entry, the others keep theirs
-pub end_kept : (steps : List Step) (a : IdBytes) (f : ℕ) (xs : List Entry) (r : ℕ) → Some r ≡ rank_for (ranks_of xs) (length xs) → steps ≡ steps ++ reranks a f xs (end_spot xs).ranks
+pub end_kept : (steps : List Step) (a : IdBytes) (f : ℕ) (xs : List Entry) (r : ℕ) → Some r ≡ rank_for (ranks_of xs) (length xs)
+    → steps ≡ steps ++ reranks a f xs (end_spot xs).ranks
 end_kept steps a f xs r is =
     nothing_added steps ∙ ap (λ ss. steps ++ ss) (sym (no_reranks a f xs)) ∙ ap (λ o. steps ++ reranks a f xs (spot_by o xs (length xs)).ranks) is
 
@@ -56,7 +57,8 @@ only_bound NoEntry is = cc
 only_bound WrongType is = cc
 only_bound Memory is = cc
 
-refused_end : (ranked : Bool) (e : LinkFault) → first_refusal ((true, faults.NoEntry) ∷ (ranked, faults.Bound) ∷ []) ≡ Some (edit_fault e) → (e ≡ Bound) × (ranked ≡ false)
+refused_end : (ranked : Bool) (e : LinkFault) → first_refusal ((true, faults.NoEntry) ∷ (ranked, faults.Bound) ∷ []) ≡ Some (edit_fault e)
+    → (e ≡ Bound) × (ranked ≡ false)
 refused_end true e is = cc
 refused_end false e is = (only_bound e is, refl)
 

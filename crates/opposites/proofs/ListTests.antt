@@ -19,5 +19,6 @@ here_refused true true false false r x is = is
 here_refused true true true false r x is = is
 
 -- the index or the rank here is refused
-pub here_fault : (n h t s r : Bool) (e : LinkFault) → IsRefusal (first_refusal ((n, faults.NoEntry) ∷ (s, faults.Bound) ∷ [])) e → IsRefusal (first_of n h t s r) e
+pub here_fault : (n h t s r : Bool) (e : LinkFault) → IsRefusal (first_refusal ((n, faults.NoEntry) ∷ (s, faults.Bound) ∷ [])) e
+    → IsRefusal (first_of n h t s r) e
 here_fault n h t s r e refused = elim refused [ inl memory ↦ inl memory | inr is ↦ inr (here_refused n h t s r (edit_fault e) is) ]

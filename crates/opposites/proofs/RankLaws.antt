@@ -32,7 +32,9 @@ length_targets row a f =
 stay_or_go : (b : IdBytes) (xs : List Entry) → length xs ≤ length (without_entry b xs) + tally (λ (x : Entry). text_eq b x.id) xs
 stay_or_go b [] = omega arith
 stay_or_go b (x ∷ xs) =
-    elim (text_eq b x.id) as (λ t. length (x ∷ xs) ≤ length (cond {A = List Entry} (not t) (x ∷ without_entry b xs) (without_entry b xs)) + (cond t 1 0 + tally (λ (x : Entry). text_eq b x.id) xs)) [
+    elim (text_eq b x.id) as (λ t.
+    length (x ∷ xs) ≤ length
+    (cond {A = List Entry} (not t) (x ∷ without_entry b xs) (without_entry b xs)) + (cond t 1 0 + tally (λ (x : Entry). text_eq b x.id) xs)) [
       | true ↦ goes (length xs) _ _ (stay_or_go b xs)
       | false ↦ stays (length xs) _ _ (stay_or_go b xs)
     ]
@@ -44,7 +46,8 @@ stay_or_go b (x ∷ xs) =
     stays n k t h = omega arith
 
 -- an index of a list is one among the others too
-pub stands_among : (row : FinMap row_cmp ℕ) (a : IdBytes) (f : ℕ) (b : IdBytes) (k : ℕ) → k < length (targets row a f) → k ≤ length (without_entry b (targets row a f))
+pub stands_among : (row : FinMap row_cmp ℕ) (a : IdBytes) (f : ℕ) (b : IdBytes) (k : ℕ) → k < length (targets row a f)
+    → k ≤ length (without_entry b (targets row a f))
 stands_among row a f b k less = at_most k _ _ _ less (stay_or_go b (targets row a f)) (one_passes row a f b)
   where
     at_most : (k n o t : ℕ) → k < n → n ≤ o + t → t ≤ 1 → k ≤ o

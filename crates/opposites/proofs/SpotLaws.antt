@@ -1,6 +1,7 @@
 -- Ranks given evenly, and the reranks of a part of a list.
 use Rattle.std.proofs.lemmas.Bool.Decides.{nat_tests}
-use Rattle.std.proofs.Common.{◌≡◌, ℕ, ◌+◌, ◌-◌, ◌*◌, ◌<◌, ◌≤◌, zero, suc, Bool, true, false, cond, not, List, [], ◌∷◌, ◌++◌, refl, sym, ap, ◌∙◌, arith, nat_eq, nat_lt, length, take, get_or, rules}
+use Rattle.std.proofs.Common.{◌≡◌, ℕ, ◌+◌, ◌-◌, ◌*◌, ◌<◌, ◌≤◌, zero, suc, Bool, true, false, cond, not, List, [], ◌∷◌, ◌++◌, refl, sym, ap, ◌∙◌}
+use Rattle.std.proofs.Common.{arith, nat_eq, nat_lt, length, take, get_or, rules}
 use Rattle.std.specs.Prelude.{Option, None, Some, is_some, unwrap_or, slice_get}
 use Rattle.finite_maps.proofs.EqualLaws.{nat_equality}
 use Rattle.model_state.specs.declared.entry.Entry.{Entry}
@@ -54,7 +55,9 @@ even_at xs k =
 
 even_before : (xs : List Entry) (k : ℕ) → k ≤ length xs → cond (nat_eq k 0) 0 (unwrap_or (slice_get (evened 1 xs) (k - 1)) 0) ≡ k * rank_gap
 even_before xs zero h = refl
-even_before xs (suc j) h = ap (λ b. cond b 0 (unwrap_or (slice_get (evened 1 xs) (suc j - 1)) 0)) (not_zero j) ∙ ap (λ i. unwrap_or (slice_get (evened 1 xs) i) 0) (less j) ∙ ap (λ o. unwrap_or o 0) (even_here 1 xs j (under j (length xs) h)) ∙ ap (λ n. n * rank_gap) (turned j)
+even_before xs (suc j) h =
+    ap (λ b. cond b 0 (unwrap_or (slice_get (evened 1 xs) (suc j - 1)) 0)) (not_zero j) ∙ ap (λ i. unwrap_or (slice_get (evened 1 xs) i) 0) (less j)
+    ∙ ap (λ o. unwrap_or o 0) (even_here 1 xs j (under j (length xs) h)) ∙ ap (λ n. n * rank_gap) (turned j)
   where
     less : (j : ℕ) → suc j - 1 ≡ j
     less j = omega arith
@@ -69,10 +72,12 @@ even_before xs (suc j) h = ap (λ b. cond b 0 (unwrap_or (slice_get (evened 1 xs
     turned j = omega arith
 
 -- the rank at an index of a list that is ranked evenly
-pub even_for : (xs : List Entry) (k : ℕ) → k ≤ length xs → rank_for (evened 1 xs) k ≡ rank_between (k * rank_gap) (cond (nat_lt k (length xs)) (Some ((k + 1) * rank_gap)) None)
+pub even_for : (xs : List Entry) (k : ℕ) → k ≤ length xs
+    → rank_for (evened 1 xs) k ≡ rank_between (k * rank_gap) (cond (nat_lt k (length xs)) (Some ((k + 1) * rank_gap)) None)
 even_for xs k h = ap (λ lo. rank_between lo (slice_get (evened 1 xs) k)) (even_before xs k h) ∙ ap (rank_between (k * rank_gap)) (even_at xs k)
 
-pub spot_anew : (xs : List Entry) (k : ℕ) → k ≤ length xs → rank_for (ranks_of xs) k ≡ None → nat_lt (length xs) most_entries ≡ true → (spot xs k).rank ≡ rank_between (k * rank_gap) (cond (nat_lt k (length xs)) (Some ((k + 1) * rank_gap)) None)
+pub spot_anew : (xs : List Entry) (k : ℕ) → k ≤ length xs → rank_for (ranks_of xs) k ≡ None → nat_lt (length xs) most_entries ≡ true
+    → (spot xs k).rank ≡ rank_between (k * rank_gap) (cond (nat_lt k (length xs)) (Some ((k + 1) * rank_gap)) None)
 spot_anew xs k h none small = ap (λ o. (spot_by o xs k).rank) none ∙ ap (λ t. cond t (rank_for (evened 1 xs) k) None) small ∙ even_for xs k h
 
 -- where there is room the others keep their ranks
@@ -85,18 +90,27 @@ spot_kept xs k h = kept (rank_for (ranks_of xs) k) h
 
 pub no_reranks : (a : IdBytes) (f : ℕ) (xs : List Entry) → reranks a f xs (ranks_of xs) ≡ []
 no_reranks a f [] = refl
-no_reranks a f (x ∷ xs) = ap (λ b. cond b (reranks a f xs (ranks_of xs)) (RerankRow a f x.id x.rank x.rank ∷ reranks a f xs (ranks_of xs))) (nat_equality.own x.rank) ∙ no_reranks a f xs
+no_reranks a f (x ∷ xs) =
+    ap (λ b. cond b (reranks a f xs (ranks_of xs)) (RerankRow a f x.id x.rank x.rank ∷ reranks a f xs (ranks_of xs))) (nat_equality.own x.rank)
+    ∙ no_reranks a f xs
 
 -- one entry more
-pub reranks_last : (a : IdBytes) (f : ℕ) (n : ℕ) (xs : List Entry) (x : Entry) → reranks a f (xs ++ x ∷ []) (evened n (xs ++ x ∷ [])) ≡ reranks a f xs (evened n xs) ++ cond (nat_eq x.rank ((n + length xs) * rank_gap)) [] (RerankRow a f x.id x.rank ((n + length xs) * rank_gap) ∷ [])
+pub reranks_last : (a : IdBytes) (f : ℕ) (n : ℕ) (xs : List Entry) (x : Entry)
+    → reranks a f (xs ++ x ∷ []) (evened n (xs ++ x ∷ [])) ≡ reranks a f xs (evened n xs)
+    ++ cond (nat_eq x.rank ((n + length xs) * rank_gap)) [] (RerankRow a f x.id x.rank ((n + length xs) * rank_gap) ∷ [])
 reranks_last a f n [] x = ap (λ r. cond (nat_eq x.rank r) [] (RerankRow a f x.id x.rank r ∷ [])) (ap (λ k. k * rank_gap) (nothing n))
   where
     nothing : (n : ℕ) → n ≡ n + 0
     nothing n = omega arith
 reranks_last a f n (z ∷ zs) x =
-    let rest = reranks_last a f (n + 1) zs x ∙ ap (λ r. reranks a f zs (evened (n + 1) zs) ++ cond (nat_eq x.rank r) [] (RerankRow a f x.id x.rank r ∷ [])) (ap (λ k. k * rank_gap) (moved n (length zs))) in
-    elim (nat_eq z.rank (n * rank_gap)) as (λ b. cond b (reranks a f (zs ++ x ∷ []) (evened (n + 1) (zs ++ x ∷ []))) (RerankRow a f z.id z.rank (n * rank_gap) ∷ reranks a f (zs ++ x ∷ []) (evened (n + 1) (zs ++ x ∷ [])))
-    ≡ cond b (reranks a f zs (evened (n + 1) zs)) (RerankRow a f z.id z.rank (n * rank_gap) ∷ reranks a f zs (evened (n + 1) zs)) ++ cond (nat_eq x.rank ((n + length (z ∷ zs)) * rank_gap)) [] (RerankRow a f x.id x.rank ((n + length (z ∷ zs)) * rank_gap) ∷ [])) [
+    let rest = reranks_last a f (n + 1) zs x
+    ∙ ap (λ r. reranks a f zs (evened (n + 1) zs) ++ cond (nat_eq x.rank r) [] (RerankRow a f x.id x.rank r ∷ []))
+    (ap (λ k. k * rank_gap) (moved n (length zs))) in
+    elim (nat_eq z.rank (n * rank_gap)) as (λ b.
+    cond b (reranks a f (zs ++ x ∷ []) (evened (n + 1) (zs ++ x ∷ [])))
+    (RerankRow a f z.id z.rank (n * rank_gap) ∷ reranks a f (zs ++ x ∷ []) (evened (n + 1) (zs ++ x ∷ [])))
+    ≡ cond b (reranks a f zs (evened (n + 1) zs)) (RerankRow a f z.id z.rank (n * rank_gap) ∷ reranks a f zs (evened (n + 1) zs))
+    ++ cond (nat_eq x.rank ((n + length (z ∷ zs)) * rank_gap)) [] (RerankRow a f x.id x.rank ((n + length (z ∷ zs)) * rank_gap) ∷ [])) [
       | true ↦ rest
       | false ↦ ap (λ ss. RerankRow a f z.id z.rank (n * rank_gap) ∷ ss) rest
     ]

@@ -11,7 +11,8 @@ use Rattle.edit_laws.specs.Refusals.{set_ref_refusal, link_refusal, unlink_refus
 
 -- a reference is set, with its mirror, and what they displace is removed
 abbrev pub SetRefLeads : Type 0
-SetRefLeads = (meta : Meta) → Sound meta → (m : State) → Good meta m → (a : IdBytes) (f : ℕ) (b : IdBytes) → holds_one meta f ≡ true → set_ref_refusal meta m a f b ≡ None
+SetRefLeads = (meta : Meta) → Sound meta → (m : State) → Good meta m → (a : IdBytes) (f : ℕ) (b : IdBytes) → holds_one meta f ≡ true
+    → set_ref_refusal meta m a f b ≡ None
     → fold meta m (set_ref_made meta m.row a f b) ≡ Some (record m { row = set_ref_after meta a f b m.row })
 
 -- two elements are linked, with the mirror, and what it displaces is removed

@@ -40,11 +40,15 @@ all_kept ps qs (f ∷ fs) same out = (out_kept ps qs f (same f (inl refl)) out.0
 
 pub joined_kept : (ps qs : Frames) (fs : List ℕ) → ((k : ℕ) → IsAmong k fs → frame_at qs k ≡ frame_at ps k) → joined qs fs ≡ joined ps fs
 joined_kept ps qs [] same = refl
-joined_kept ps qs (f ∷ fs) same = ap (λ (o : Option (List ℕ)). unwrap_or o [] ++ joined qs fs) (same f (inl refl)) ∙ ap (λ (l : List ℕ). unwrap_or (frame_at ps f) [] ++ l) (joined_kept ps qs fs (λ k h. same k (inr h)))
+joined_kept ps qs (f ∷ fs) same =
+    ap (λ (o : Option (List ℕ)). unwrap_or o [] ++ joined qs fs) (same f (inl refl))
+    ∙ ap (λ (l : List ℕ). unwrap_or (frame_at ps f) [] ++ l) (joined_kept ps qs fs (λ k h. same k (inr h)))
 
 pub joined_append : (ps : Frames) (fs gs : List ℕ) → joined ps (fs ++ gs) ≡ joined ps fs ++ joined ps gs
 joined_append ps [] gs = refl
-joined_append ps (f ∷ fs) gs = ap (λ (l : List ℕ). unwrap_or (frame_at ps f) [] ++ l) (joined_append ps fs gs) ∙ sym (append_assoc (unwrap_or (frame_at ps f) []) (joined ps fs) (joined ps gs))
+joined_append ps (f ∷ fs) gs =
+    ap (λ (l : List ℕ). unwrap_or (frame_at ps f) [] ++ l) (joined_append ps fs gs)
+    ∙ sym (append_assoc (unwrap_or (frame_at ps f) []) (joined ps fs) (joined ps gs))
 
 pub out_each : (ps : Frames) (fs : List ℕ) (k : ℕ) → AreOut ps fs → IsAmong k fs → IsOut ps k
 out_each ps [] k out h = absurd h

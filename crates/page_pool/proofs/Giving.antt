@@ -25,7 +25,8 @@ all_left start all out = record {
   room = refl;
 }
 
-module _ (start now next : Frames) (all left rest : List ℕ) (f : ℕ) (giving : Giving start now all left) (is : left ≡ rest ++ f ∷ []) (given : IsGiven now next f) where
+module _ (start now next : Frames) (all left rest : List ℕ) (f : ℕ) (giving : Giving start now all left) (is : left ≡ rest ++ f ∷ [])
+    (given : IsGiven now next f) where
   out : AreOut now (rest ++ f ∷ [])
   out = subst (λ (l : List ℕ). AreOut now l) is giving.out
 

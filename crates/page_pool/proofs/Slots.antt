@@ -26,7 +26,8 @@ changed ps k now h = record {
 }
 
 -- the counts after a write of a frame that was free, of one that was out, and of one that stays out
-pub filled : (ps : Frames) (k : ℕ) (b : List ℕ) → k < length ps → frame_at ps k ≡ None → (out_of (set ps k (Some b)) ≡ out_of ps + 1) × (free_of (set ps k (Some b)) + 1 ≡ free_of ps)
+pub filled : (ps : Frames) (k : ℕ) (b : List ℕ) → k < length ps → frame_at ps k ≡ None
+    → (out_of (set ps k (Some b)) ≡ out_of ps + 1) × (free_of (set ps k (Some b)) + 1 ≡ free_of ps)
 unfolding frame_at out_of free_of
 filled [] k b h is = absurd (omega (arith, h))
 filled (None ∷ ps) zero b h is = (refl, refl)
@@ -34,7 +35,8 @@ filled (Some c ∷ ps) zero b h is = cc
 filled (None ∷ ps) (suc k) b h is = let r = filled ps k b (omega (arith, h)) is in (r.0, omega (arith, r.1))
 filled (Some c ∷ ps) (suc k) b h is = let r = filled ps k b (omega (arith, h)) is in (omega (arith, r.0), r.1)
 
-pub emptied : (ps : Frames) (k : ℕ) (b : List ℕ) → frame_at ps k ≡ Some b → (out_of (set ps k None) + 1 ≡ out_of ps) × (free_of (set ps k None) ≡ free_of ps + 1)
+pub emptied : (ps : Frames) (k : ℕ) (b : List ℕ) → frame_at ps k ≡ Some b
+    → (out_of (set ps k None) + 1 ≡ out_of ps) × (free_of (set ps k None) ≡ free_of ps + 1)
 unfolding frame_at out_of free_of
 emptied [] k b is = cc
 emptied (None ∷ ps) zero b is = cc

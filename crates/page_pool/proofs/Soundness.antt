@@ -18,17 +18,23 @@ sound_none capacity = record {
 }
 
 -- an item of a list that is one longer
-at_push : (P : ℕ → Type 0) (xs : List ℕ) (x : ℕ) → ((i : ℕ) → i < length xs → P (get_or xs i 0)) → P x → (i : ℕ) → i < length (xs ++ x ∷ []) → P (get_or (xs ++ x ∷ []) i 0)
+at_push : (P : ℕ → Type 0) (xs : List ℕ) (x : ℕ) → ((i : ℕ) → i < length xs → P (get_or xs i 0)) → P x → (i : ℕ) → i < length (xs ++ x ∷ [])
+    → P (get_or (xs ++ x ∷ []) i 0)
 at_push P [] x each one zero h = one
 at_push P [] x each one (suc i) h = absurd (omega (arith, h))
 at_push P (y ∷ ys) x each one zero h = each zero (omega arith)
 at_push P (y ∷ ys) x each one (suc i) h = at_push P ys x (λ j g. each (suc j) (omega (arith, g))) one i (omega (arith, h))
 
-apart_push : (xs : List ℕ) (x : ℕ) → ((i j : ℕ) → i < j → j < length xs → get_or xs i 0 ≢ get_or xs j 0) → ((i : ℕ) → i < length xs → get_or xs i 0 ≢ x) → (i j : ℕ) → i < j → j < length (xs ++ x ∷ []) → get_or (xs ++ x ∷ []) i 0 ≢ get_or (xs ++ x ∷ []) j 0
+apart_push : (xs : List ℕ) (x : ℕ) → ((i j : ℕ) → i < j → j < length xs → get_or xs i 0 ≢ get_or xs j 0)
+    → ((i : ℕ) → i < length xs → get_or xs i 0 ≢ x) → (i j : ℕ) → i < j → j < length (xs ++ x ∷ [])
+    → get_or (xs ++ x ∷ []) i 0 ≢ get_or (xs ++ x ∷ []) j 0
 apart_push [] x all one i j h g = absurd (omega (arith, h, g))
 apart_push (y ∷ ys) x all one i zero h g = absurd (omega (arith, h))
-apart_push (y ∷ ys) x all one zero (suc j) h g = at_push (λ z. y ≢ z) ys x (λ k b. all zero (suc k) (omega arith) (omega (arith, b))) (one zero (omega arith)) j (omega (arith, g))
-apart_push (y ∷ ys) x all one (suc i) (suc j) h g = apart_push ys x (λ a b c d. all (suc a) (suc b) (omega (arith, c)) (omega (arith, d))) (λ a b. one (suc a) (omega (arith, b))) i j (omega (arith, h)) (omega (arith, g))
+apart_push (y ∷ ys) x all one zero (suc j) h g =
+    at_push (λ z. y ≢ z) ys x (λ k b. all zero (suc k) (omega arith) (omega (arith, b))) (one zero (omega arith)) j (omega (arith, g))
+apart_push (y ∷ ys) x all one (suc i) (suc j) h g =
+    apart_push ys x (λ a b c d. all (suc a) (suc b) (omega (arith, c)) (omega (arith, d))) (λ a b. one (suc a) (omega (arith, b))) i j
+    (omega (arith, h)) (omega (arith, g))
 
 in_front : (xs : List ℕ) (x i : ℕ) → i < length xs → get_or (xs ++ x ∷ []) i 0 ≡ get_or xs i 0
 in_front [] x i h = absurd (omega (arith, h))
@@ -41,7 +47,8 @@ module _ (ps : Frames) (free : List ℕ) (capacity : ℕ) (sound : IsSound ps fr
     few = omega (arith, few, size);
     room = omega (arith, room, size);
     within = at_push (λ k. k < length (ps ++ None ∷ [])) free (length ps) (λ i h. let w = sound.within i h in omega (arith, w, size)) (omega (arith, size));
-    empty = at_push (λ k. frame_at (ps ++ None ∷ []) k ≡ None) free (length ps) (λ i h. more.0 (get_or free i 0) ∙ sound.empty i h) (more.0 (length ps) ∙ past_end ps (length ps) (omega arith));
+    empty = at_push (λ k. frame_at (ps ++ None ∷ []) k ≡ None) free (length ps) (λ i h. more.0 (get_or free i 0) ∙ sound.empty i h)
+        (more.0 (length ps) ∙ past_end ps (length ps) (omega arith));
     apart = apart_push free (length ps) sound.apart (λ i h is. let w = sound.within i h in omega (arith, w, is));
     count = let c = sound.count in let l = length_push free (length ps) in omega (arith, more.2, c, l);
   }
@@ -57,7 +64,8 @@ module _ (ps : Frames) (free : List ℕ) (capacity : ℕ) (sound : IsSound ps fr
     few = let l = length-set ps k (Some c) in let f = sound.few in omega (arith, l, f);
     room = let l = length-set ps k (Some c) in let f = sound.room in omega (arith, l, f);
     within = λ i h. let l = length-set ps k (Some c) in let w = sound.within i h in omega (arith, l, w);
-    empty = λ i h. (changed ps k (Some c) (is_within ps k b is)).others (get_or free i 0) (λ same. clash (get_or free i 0) same (sound.empty i h)) ∙ sound.empty i h;
+    empty = λ i h. (changed ps k (Some c) (is_within ps k b is)).others (get_or free i 0) (λ same. clash (get_or free i 0) same (sound.empty i h))
+        ∙ sound.empty i h;
     apart = sound.apart;
     count = sound.count ∙ sym (kept ps k b c is).1;
   }
@@ -69,8 +77,10 @@ module _ (ps : Frames) (free : List ℕ) (capacity : ℕ) (sound : IsSound ps fr
   sound_given k b is = record {
     few = let f = sound.few in omega (arith, size, f);
     room = let f = sound.room in omega (arith, size, f);
-    within = at_push (λ j. j < length (set ps k None)) free k (λ i h. let w = sound.within i h in omega (arith, size, w)) (let w = is_within ps k b is in omega (arith, size, w));
-    empty = at_push (λ j. frame_at (set ps k None) j ≡ None) free k (λ i h. changes.others (get_or free i 0) (λ same. clash (get_or free i 0) same (sound.empty i h)) ∙ sound.empty i h) changes.at;
+    within = at_push (λ j. j < length (set ps k None)) free k (λ i h. let w = sound.within i h in omega (arith, size, w))
+        (let w = is_within ps k b is in omega (arith, size, w));
+    empty = at_push (λ j. frame_at (set ps k None) j ≡ None) free k
+        (λ i h. changes.others (get_or free i 0) (λ same. clash (get_or free i 0) same (sound.empty i h)) ∙ sound.empty i h) changes.at;
     apart = apart_push free k sound.apart (λ i h same. clash (get_or free i 0) same (sound.empty i h));
     count = let l = length_push free k in let s = sound.count in let e = (emptied ps k b is).1 in omega (arith, l, s, e);
   }

@@ -18,18 +18,23 @@ out_within ps qs k j is same out = let b = bytes_of ps k out in let w = is_withi
 pub read_at : (ps qs : Frames) (k j : ℕ) (x : Option (List ℕ)) → qs ≡ ps → j ≡ k → IsOut ps k → x ≡ get_or qs j x → frame_at ps k ≡ x
 unfolding frame_at
 read_at ps qs k j x is same out read =
-    ap (λ (l : Frames). get_or l k None) (sym is) ∙ ap (λ (i : ℕ). get_or qs i None) (sym same) ∙ get_or_default qs j None x (out_within ps qs k j is same out) ∙ sym read
+    ap (λ (l : Frames). get_or l k None) (sym is) ∙ ap (λ (i : ℕ). get_or qs i None) (sym same)
+    ∙ get_or_default qs j None x (out_within ps qs k j is same out) ∙ sym read
 
 pub not_none : (ps qs : Frames) (k j : ℕ) (x : Option (List ℕ)) → qs ≡ ps → j ≡ k → IsOut ps k → x ≡ get_or qs j x → x ≡ None → ⊥
-not_none ps qs k j x is same out read none = let b = bytes_of ps k out in let r = read_at ps qs k j x is same out read in clash (frame_at ps k) b.0 b.1 (r ∙ none)
+not_none ps qs k j x is same out read none = let b = bytes_of ps k out in let r = read_at ps qs k j x is same out read
+    in clash (frame_at ps k) b.0 b.1 (r ∙ none)
   where
     clash : (o : Option (List ℕ)) (b : List ℕ) → o ≡ Some b → o ≡ None → ⊥
     clash o b some none = cc
 
-pub taken_sound : (ps : Frames) (free rest : List ℕ) (k cap cap' : ℕ) (b : List ℕ) → IsSound ps free cap → free ≡ rest ++ k ∷ [] → cap' ≡ cap → IsSound (set ps k (Some b)) rest cap'
-taken_sound ps free rest k cap cap' b sound is same = subst (λ (n : ℕ). IsSound (set ps k (Some b)) rest n) (sym same) (sound_taken ps rest k cap (subst (λ (l : List ℕ). IsSound ps l cap) is sound) b)
+pub taken_sound : (ps : Frames) (free rest : List ℕ) (k cap cap' : ℕ) (b : List ℕ) → IsSound ps free cap → free ≡ rest ++ k ∷ [] → cap' ≡ cap
+    → IsSound (set ps k (Some b)) rest cap'
+taken_sound ps free rest k cap cap' b sound is same =
+    subst (λ (n : ℕ). IsSound (set ps k (Some b)) rest n) (sym same) (sound_taken ps rest k cap (subst (λ (l : List ℕ). IsSound ps l cap) is sound) b)
 
-pub is_taken : (ps qs : Frames) (free rest : List ℕ) (k cap : ℕ) (b : List ℕ) → qs ≡ ps → IsSound qs free cap → free ≡ rest ++ k ∷ [] → b ≡ zeros → IsTaken ps (set qs k (Some b)) k
+pub is_taken : (ps qs : Frames) (free rest : List ℕ) (k cap : ℕ) (b : List ℕ) → qs ≡ ps → IsSound qs free cap → free ≡ rest ++ k ∷ [] → b ≡ zeros
+    → IsTaken ps (set qs k (Some b)) k
 is_taken ps qs free rest k cap b view sound is all_zero = subst (λ (l : Frames). IsTaken l (set qs k (Some b)) k) view (record {
   was_free = none;
   changes = subst (λ (z : List ℕ). Changes qs (set qs k (Some b)) k (Some z)) all_zero (changed qs k (Some b) within);
@@ -52,7 +57,8 @@ module _ (ps qs : Frames) (k j : ℕ) (view : qs ≡ ps) (same : j ≡ k) (out :
 
   pub given_sound : (free free' : List ℕ) (cap cap' : ℕ) → IsSound qs free cap → free' ≡ free ++ j ∷ [] → cap' ≡ cap → IsSound (set qs j None) free' cap'
   given_sound free free' cap cap' sound is cap_is =
-      subst (λ (l : List ℕ). IsSound (set qs j None) l cap') (sym is) (subst (λ (n : ℕ). IsSound (set qs j None) (free ++ j ∷ []) n) (sym cap_is) (sound_given qs free cap sound j there.0 there.1))
+      subst (λ (l : List ℕ). IsSound (set qs j None) l cap') (sym is)
+      (subst (λ (n : ℕ). IsSound (set qs j None) (free ++ j ∷ []) n) (sym cap_is) (sound_given qs free cap sound j there.0 there.1))
 
   pub is_given : IsGiven ps (set qs j None) k
   is_given = subst (λ (l : Frames). IsGiven l (set qs j None) k) view (subst (λ (i : ℕ). IsGiven qs (set qs j None) i) same (record {
@@ -81,13 +87,17 @@ module _ (ps qs : Frames) (k j : ℕ) (view : qs ≡ ps) (same : j ≡ k) (out :
   }))
 
   -- the frame's bytes, where a part of them is written over
-  pub is_overwritten : (x : Option (List ℕ)) (page new : List ℕ) (at : ℕ) (bytes : List ℕ) → x ≡ get_or qs j x → x ≡ Some page → new ≡ overwritten page at bytes → IfSome (frame_at ps k) (λ old. IsWritten ps (set qs j (Some new)) k (overwritten old at bytes))
+  pub is_overwritten : (x : Option (List ℕ)) (page new : List ℕ) (at : ℕ) (bytes : List ℕ) → x ≡ get_or qs j x → x ≡ Some page
+      → new ≡ overwritten page at bytes → IfSome (frame_at ps k) (λ old. IsWritten ps (set qs j (Some new)) k (overwritten old at bytes))
   is_overwritten x page new at bytes read is over =
-      subst (λ (o : Option (List ℕ)). IfSome o (λ old. IsWritten ps (set qs j (Some new)) k (overwritten old at bytes))) (sym (read_at ps qs k j x view same out read ∙ is))
+      subst (λ (o : Option (List ℕ)). IfSome o (λ old. IsWritten ps (set qs j (Some new)) k (overwritten old at bytes)))
+      (sym (read_at ps qs k j x view same out read ∙ is))
       (subst (λ (b : List ℕ). IsWritten ps (set qs j (Some new)) k b) over (is_written new))
 
 -- one more free frame
-pub one_more : (ps ps' : Frames) (free free' : List ℕ) (n cap cap' : ℕ) → IsSound ps free cap → ps' ≡ ps ++ None ∷ [] → free' ≡ free ++ n ∷ [] → n ≡ length ps → cap' ≡ cap → length ps < pool_limit → length ps < cap → IsSound ps' free' cap'
+pub one_more : (ps ps' : Frames) (free free' : List ℕ) (n cap cap' : ℕ) → IsSound ps free cap → ps' ≡ ps ++ None ∷ [] → free' ≡ free ++ n ∷ []
+    → n ≡ length ps → cap' ≡ cap → length ps < pool_limit → length ps < cap → IsSound ps' free' cap'
 one_more ps ps' free free' n cap cap' sound is free_is n_is cap_is few room =
-    subst (λ (l : Frames). IsSound l free' cap') (sym is) (subst (λ (l : List ℕ). IsSound (ps ++ None ∷ []) l cap') (sym (free_is ∙ ap (λ (i : ℕ). free ++ i ∷ []) n_is))
+    subst (λ (l : Frames). IsSound l free' cap') (sym is)
+    (subst (λ (l : List ℕ). IsSound (ps ++ None ∷ []) l cap') (sym (free_is ∙ ap (λ (i : ℕ). free ++ i ∷ []) n_is))
     (subst (λ (i : ℕ). IsSound (ps ++ None ∷ []) (free ++ length ps ∷ []) i) (sym cap_is) (sound_more ps free cap sound few room)))

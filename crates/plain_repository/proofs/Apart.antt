@@ -13,7 +13,8 @@ use Rattle.history_tree.specs.States.{operations_to}
 use Rattle.history_tree.proofs.Heads as heads
 use Rattle.history_tree.proofs.Steady.{operations_kept}
 use Rattle.op_form.specs.declared.event.Event.{Event}
-use Rattle.op_form.specs.declared.event.Event.TheVariants.{Init, Checkout, Edit, Begin, End, Undo, Discard, Tidy, Commit, Branch, Tag, Update, Merge, Drop, Evolve, Upgrade, Signed}
+use Rattle.op_form.specs.declared.event.Event.TheVariants.{Init, Checkout, Edit, Begin, End, Undo, Discard, Tidy, Commit, Branch, Tag, Update, Merge}
+use Rattle.op_form.specs.declared.event.Event.TheVariants.{Drop, Evolve, Upgrade, Signed}
 use Rattle.plain_repository.specs.State.{State, Workspace, untouched, workspace_of, recorded_steps, model_of, changed_by_number}
 use Rattle.ecore_meta.specs.Promised.{IsMetamodel}
 use Rattle.plain_repository.specs.Metamodels.{grown}
@@ -41,7 +42,8 @@ module _ (s : State) (ws : ℕ) (w : Workspace) (there : of_number s.workspaces 
   left : (change : Option Workspace → Option Workspace) (k : ℕ) → nat_eq k ws ≡ false → of_number (changed_by_number change s.workspaces k) ws ≡ Some w
   left change k apart = other_number change s.workspaces k ws (differ k ws apart) ∙ there
 
-  commit_apart : (k : ℕ) (signature : Option Signature) (message : List ℕ) → nat_eq k ws ≡ false → (o : Option Workspace) → of_number (with_commit k signature message o s).workspaces ws ≡ Some w
+  commit_apart : (k : ℕ) (signature : Option Signature) (message : List ℕ) → nat_eq k ws ≡ false → (o : Option Workspace)
+      → of_number (with_commit k signature message o s).workspaces ws ≡ Some w
   commit_apart k signature message apart None = there
   commit_apart k signature message apart (Some v) = left (option_map (committed (length s.history.versions))) k apart
 
@@ -76,14 +78,16 @@ workspaces_stay_apart s ws w there e apart =
 -- ---- models
 -- a history in which the operations up to a base are the same leads to the same model
 pub same_model : (meta : Meta) (g h : History) (w : Workspace) → operations_to g w.base ≡ operations_to h w.base → model_of meta g w ≡ model_of meta h w
-same_model meta g h w same = ap (λ (os : List Operation). unwrap_or (fold meta (unwrap_or (fold_package meta nothing os) nothing) (recorded_steps w)) nothing) same
+same_model meta g h w same =
+    ap (λ (os : List Operation). unwrap_or (fold meta (unwrap_or (fold_package meta nothing os) nothing) (recorded_steps w)) nothing) same
 
 commit_leaves : (s : State) (k : ℕ) (signature : Option Signature) (message : List ℕ) (v : ℕ) → v < length s.history.versions → (o : Option Workspace)
     → operations_to (with_commit k signature message o s).history v ≡ operations_to s.history v
 commit_leaves s k signature message v within None = refl
 commit_leaves s k signature message v within (Some w) = operations_kept s.history (version_of w signature message) v within
 
-pub effect_leaves : (meta : Meta) (s : State) (w : Workspace) → w.base < length s.history.versions → (e : Event) → IsTrue (playable_with s (Some meta) e) → operations_to (effect s e).history w.base ≡ operations_to s.history w.base
+pub effect_leaves : (meta : Meta) (s : State) (w : Workspace) → w.base < length s.history.versions → (e : Event)
+    → IsTrue (playable_with s (Some meta) e) → operations_to (effect s e).history w.base ≡ operations_to s.history w.base
 effect_leaves meta s w within (Init text) could = absurd cc
 effect_leaves meta s w within (Checkout version branch) could = refl
 effect_leaves meta s w within (Edit k operations) could = refl
@@ -118,11 +122,14 @@ unfolding play
 meta_now s meta now e begun could is = same_Some now (meta_after meta e) (sym is ∙ meta_left s meta e begun (asked s meta e begun could))
 
 -- an event leaves the model of each workspace, with the metamodel that is there then
-effect_model_stays : (meta : Meta) (s : State) (w : Workspace) → IsMetamodel meta → InOrder meta s.history w → (e : Event) → IsTrue (playable_with s (Some meta) e)
+effect_model_stays : (meta : Meta) (s : State) (w : Workspace) → IsMetamodel meta → InOrder meta s.history w → (e : Event)
+    → IsTrue (playable_with s (Some meta) e)
     → model_of (meta_after meta e) (effect s e).history w ≡ model_of meta s.history w
-effect_model_stays meta s w is q = by_growth meta (λ e. IsTrue (playable_with s (Some meta) e) → model_of (meta_after meta e) (effect s e).history w ≡ model_of meta s.history w)
+effect_model_stays meta s w is q =
+    by_growth meta (λ e. IsTrue (playable_with s (Some meta) e) → model_of (meta_after meta e) (effect s e).history w ≡ model_of meta s.history w)
     (λ text could. model_stays meta (grown text meta) (grown_is meta text is could) s.history w q.runs)
-    (λ e same could. ap (λ (m : Meta). model_of m (effect s e).history w) same ∙ same_model meta (effect s e).history s.history w (effect_leaves meta s w q.stands.base e could))
+    (λ e same could. ap (λ (m : Meta). model_of m (effect s e).history w) same
+    ∙ same_model meta (effect s e).history s.history w (effect_leaves meta s w q.stands.base e could))
 
 pub models_stay_apart : ModelsStayApart
 unfolding play
@@ -154,4 +161,11 @@ events_are_of_one Upgrade ws n first second = absurd cc
 events_are_of_one (Signed k author moment message) ws n first second = same_workspace k ws n first second
 
 pub some_are_of_none : SomeAreOfNone
-some_are_of_none = record { init = λ text ws. refl; checkout = λ version branch ws. refl; tag = λ name version ws. refl; evolve = λ text ws. refl; upgrade = λ ws. refl }
+some_are_of_none = record {
+  init = λ text ws. refl;
+  checkout = λ version branch ws. refl;
+  tag = λ name version ws. refl;
+  evolve =
+      λ text ws. refl;
+  upgrade = λ ws. refl;
+}

@@ -1,5 +1,6 @@
 -- Each event that could be made changes something beside the numbers that every event raises.
-use Rattle.std.proofs.Common.{◌≡◌, refl, ◌∙◌, sym, ap, subst, ℕ, zero, suc, ◌+◌, ◌-◌, ◌<◌, ◌==◌, ◌&&◌, ◌||◌, not, nat_lt, List, [], ◌∷◌, ◌++◌, length, length-append, Bool, true, false, Option, None, Some, ltb-true, arith}
+use Rattle.std.proofs.Common.{◌≡◌, refl, ◌∙◌, sym, ap, subst, ℕ, zero, suc, ◌+◌, ◌-◌, ◌<◌, ◌==◌, ◌&&◌, ◌||◌, not, nat_lt, List, [], ◌∷◌, ◌++◌, length}
+use Rattle.std.proofs.Common.{length-append, Bool, true, false, Option, None, Some, ltb-true, arith}
 use Rattle.std.proofs.lemmas.List.{length-take-le}
 use Rattle.std.proofs.lemmas.Option.{same_Some}
 use Rattle.std.specs.Prelude.{IsTrue, take, is_some, is_ok, slice_get, option_map, Result, Ok, Err}
@@ -13,9 +14,11 @@ use Rattle.history_tree.specs.History.{head}
 use Rattle.tidy_laws.specs.Tidy.{is_tidy}
 use Rattle.tidy_laws.proofs.Equal.{tidy_test_is_exact}
 use Rattle.op_form.specs.declared.event.Event.{Event}
-use Rattle.op_form.specs.declared.event.Event.TheVariants.{Init, Checkout, Edit, Begin, End, Undo, Discard, Tidy, Commit, Branch, Tag, Update, Merge, Drop, Evolve, Upgrade, Signed}
+use Rattle.op_form.specs.declared.event.Event.TheVariants.{Init, Checkout, Edit, Begin, End, Undo, Discard, Tidy, Commit, Branch, Tag, Update, Merge}
+use Rattle.op_form.specs.declared.event.Event.TheVariants.{Drop, Evolve, Upgrade, Signed}
 use Rattle.op_form.specs.Formed.{is_event, is_package, is_operation}
-use Rattle.plain_repository.specs.State.{State, Workspace, Composite as Open, untouched, there, workspace_of, open_steps, with_changed, changed_at, changed_by_number, is_closed, is_open}
+use Rattle.plain_repository.specs.State.{State, Workspace, Composite as Open, untouched, there, workspace_of, open_steps, with_changed, changed_at}
+use Rattle.plain_repository.specs.State.{changed_by_number, is_closed, is_open}
 use Rattle.plain_repository.specs.Metamodels.{meta_of_read, can_evolve, grown, with_grown}
 use Rattle.plain_repository.specs.Checkouts.{dropped}
 use Rattle.history_tree.specs.declared.version.Signature.{Signature}
@@ -68,7 +71,8 @@ has_steps (Composite name []) is = absurd (none _ is)
     none false is = cc
 
 -- operations that are recorded make the list longer, or that of the open composite's steps
-more_recorded : (more : List Operation) (o : Option Open) (w : Workspace) → w.composite ≡ o → 0 < length more → 0 < length (steps_all more) → added more o w ≡ w → ⊥
+more_recorded : (more : List Operation) (o : Option Open) (w : Workspace) → w.composite ≡ o → 0 < length more → 0 < length (steps_all more)
+    → added more o w ≡ w → ⊥
 more_recorded more None w is some steps same = not_longer w.operations more some (ap (λ (x : Workspace). x.operations) same)
 more_recorded more (Some c) w is some steps same =
     not_longer c.steps (steps_all more) steps (ap (λ (o : Option Open). open_steps o) (ap (λ (x : Workspace). x.composite) same ∙ is))
@@ -87,7 +91,8 @@ edit_changes : (s : State) (meta : Meta) (k : ℕ) (more : List Operation) (o : 
 edit_changes s meta k more None is could formed same = absurd cc
 edit_changes s meta k [] (Some w) is could formed same = absurd cc
 edit_changes s meta k (p ∷ more) (Some w) is could formed same =
-    more_recorded (p ∷ more) w.composite w refl (omega arith) (some_steps p more (first_has_steps p more formed)) (unchanged s k (with_more (p ∷ more)) w is same)
+    more_recorded (p ∷ more) w.composite w refl (omega arith) (some_steps p more (first_has_steps p more formed))
+    (unchanged s k (with_more (p ∷ more)) w is same)
 
 opened : (o : Option Open) (c : Open) → IsTrue (not (is_some o)) → Some c ≡ o → ⊥
 opened (Some d) c is same = cc
@@ -121,13 +126,15 @@ module _ (s : State) (meta : Meta) (begun : s.meta ≡ Some meta) (k : ℕ) wher
   undo_changes : (o : Option Workspace) → workspace_of s k ≡ o → IsTrue (can_undo o) → with_changed without_last k s ≡ s → ⊥
   undo_changes None is could same = absurd cc
   undo_changes (Some w) is could same =
-      not_shorter w.operations (some_number (length w.operations) (and_right _ _ could)) (ap (λ (x : Workspace). x.operations) (unchanged s k without_last w is same))
+      not_shorter w.operations (some_number (length w.operations) (and_right _ _ could))
+      (ap (λ (x : Workspace). x.operations) (unchanged s k without_last w is same))
 
   discard_changes : (o : Option Workspace) → workspace_of s k ≡ o → IsTrue (can_discard o) → with_changed without_any k s ≡ s → ⊥
   discard_changes None is could same = absurd cc
   discard_changes (Some w) is could same =
       let still : without_any w ≡ w = unchanged s k without_any w is same in
-      emptied w.composite w.operations w.pending could (ap (λ (x : Workspace). x.composite) still) (ap (λ (x : Workspace). x.operations) still) (ap (λ (x : Workspace). x.pending) still)
+      emptied w.composite w.operations w.pending could (ap (λ (x : Workspace). x.composite) still) (ap (λ (x : Workspace). x.operations) still)
+      (ap (λ (x : Workspace). x.pending) still)
 
   tidy_changes : (o : Option Workspace) → workspace_of s k ≡ o → IsTrue (can_tidy meta o) → with_changed (by_meta s.meta tidied) k s ≡ s → ⊥
   tidy_changes None is could same = absurd cc
@@ -135,20 +142,24 @@ module _ (s : State) (meta : Meta) (begun : s.meta ≡ Some meta) (k : ℕ) wher
       let still : tidied meta w ≡ w = subst (λ (m : Option Meta). by_meta m tidied w ≡ w) begun (unchanged s k (by_meta s.meta tidied) w is same) in
       not_both (is_tidy meta w.operations) (and_right _ _ could) ((tidy_test_is_exact meta w.operations).1 (ap (λ (x : Workspace). x.operations) still))
 
-  commit_changes : (signature : Option Signature) (message : List ℕ) (o : Option Workspace) → IsTrue (can_commit s.history o) → with_commit k signature message o s ≡ s → ⊥
+  commit_changes : (signature : Option Signature) (message : List ℕ) (o : Option Workspace) → IsTrue (can_commit s.history o)
+      → with_commit k signature message o s ≡ s → ⊥
   commit_changes signature message None could same = absurd cc
-  commit_changes signature message (Some w) could same = not_longer s.history.versions (version_of w signature message ∷ []) (omega arith) (ap (λ (x : State). x.history.versions) same)
+  commit_changes signature message (Some w) could same =
+      not_longer s.history.versions (version_of w signature message ∷ []) (omega arith) (ap (λ (x : State). x.history.versions) same)
 
   branch_changes : (name : List ℕ) (o : Option Workspace) → IsTrue (is_closed o) → with_new_branch k name o s ≡ s → ⊥
   branch_changes name None could same = absurd cc
-  branch_changes name (Some w) could same = not_longer s.history.branches (record { name = name; start = w.base } ∷ []) (omega arith) (ap (λ (x : State). x.history.branches) same)
+  branch_changes name (Some w) could same =
+      not_longer s.history.branches (record { name = name; start = w.base } ∷ []) (omega arith) (ap (λ (x : State). x.history.branches) same)
 
   update_changes : (letters : List ℕ) (o : Option Workspace) → workspace_of s k ≡ o → IsTrue (can_update meta s.history letters o)
       → with_changed (by_meta s.meta (λ m. updated m s.history letters)) k s ≡ s → ⊥
   update_changes letters None is could same = absurd cc
   update_changes letters (Some w) is could same =
       let still : updated meta s.history letters w ≡ w =
-      subst (λ (m : Option Meta). by_meta m (λ n. updated n s.history letters) w ≡ w) begun (unchanged s k (by_meta s.meta (λ m. updated m s.history letters)) w is same) in
+      subst (λ (m : Option Meta). by_meta m (λ n. updated n s.history letters) w ≡ w) begun
+      (unchanged s k (by_meta s.meta (λ m. updated m s.history letters)) w is same) in
       let head_is : head s.history w.branch ≡ w.base = ap (λ (x : Workspace). x.base) still in
       not_both (w.base == head s.history w.branch) (and_right _ _ (and_left _ _ could)) (ap (λ h. w.base == h) head_is ∙ nat_equality.own w.base)
 
@@ -189,7 +200,8 @@ evolve_changes s meta text is could same =
     let still : Some (grown text meta) ≡ Some meta = ap (option_map (grown text)) (sym is) ∙ ap (λ (x : State). x.meta) same ∙ is in
     grown_other meta text could (same_Some (grown text meta) meta still)
 
-effect_changes : (s : State) (m : Option Meta) (e : Event) → s.meta ≡ m → IsTrue (is_event e) → IsTrue (suits s.upgraded e) → IsTrue (playable_with s m e) → effect s e ≡ s → ⊥
+effect_changes : (s : State) (m : Option Meta) (e : Event) → s.meta ≡ m → IsTrue (is_event e) → IsTrue (suits s.upgraded e)
+    → IsTrue (playable_with s m e) → effect s e ≡ s → ⊥
 unfolding is_event
 effect_changes s None (Init text) is formed suited could same = init_changes (metamodel_of text) could (ap (λ (x : State). x.meta) same ∙ is)
 effect_changes s None (Checkout version branch) is formed suited could same = absurd cc
@@ -211,7 +223,8 @@ effect_changes s None (Signed k author moment message) is formed suited could sa
 effect_changes s (Some meta) (Init text) is formed suited could same = absurd cc
 effect_changes s (Some meta) (Checkout version branch) is formed suited could same =
     not_longer s.workspaces (Some (untouched branch version) ∷ []) (omega arith) (ap (λ (x : State). x.workspaces) same)
-effect_changes s (Some meta) (Edit k operations) is formed suited could same = edit_changes s meta k operations (workspace_of s k) refl could (and_right _ _ formed) same
+effect_changes s (Some meta) (Edit k operations) is formed suited could same =
+    edit_changes s meta k operations (workspace_of s k) refl could (and_right _ _ formed) same
 effect_changes s (Some meta) (Begin k name) is formed suited could same = begin_changes s meta is k name (workspace_of s k) refl (and_right _ _ could) same
 effect_changes s (Some meta) (End k) is formed suited could same = end_changes s meta is k (workspace_of s k) refl could same
 effect_changes s (Some meta) (Undo k) is formed suited could same = undo_changes s meta is k (workspace_of s k) refl could same

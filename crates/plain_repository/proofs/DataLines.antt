@@ -1,5 +1,6 @@
 -- Which lines begin as the last line of a reply does, and which don't.
-use Rattle.std.proofs.Common.{◌≡◌, ℕ, zero, suc, ◌+◌, ◌/◌, ◌%◌, ◌<◌, List, [], ◌∷◌, ◌++◌, map, take, Bool, true, false, ◌&&◌, ◌||◌, cond, nat_eq, nat_lt, Option, None, Some, refl, sym, subst, arith}
+use Rattle.std.proofs.Common.{◌≡◌, ℕ, zero, suc, ◌+◌, ◌/◌, ◌%◌, ◌<◌, List, [], ◌∷◌, ◌++◌, map, take, Bool, true, false, ◌&&◌, ◌||◌, cond, nat_eq}
+use Rattle.std.proofs.Common.{nat_lt, Option, None, Some, refl, sym, subst, arith}
 use Rattle.std.specs.Prelude.{All}
 use Rattle.std.specs.Cmp.Lexicographic.{pointwise}
 use Rattle.std.specs.Fmt.{decimal, digits, digits_onto, digit_glyph}
@@ -79,7 +80,8 @@ open_apart meta None = no_lines
 open_apart meta (Some composite) = All-cons Apart _ (map (step_line meta) composite.steps) refl (steps_apart meta composite.steps)
 
 pub changes_apart : (meta : Meta) (os : List Operation) (composite : Option Composite) → All Apart (operation_lines meta os ++ lines_of_open meta composite)
-changes_apart meta os composite = All-append Apart (operation_lines meta os) (lines_of_open meta composite) (operations_apart meta os) (open_apart meta composite)
+changes_apart meta os composite =
+    All-append Apart (operation_lines meta os) (lines_of_open meta composite) (operations_apart meta os) (open_apart meta composite)
 
 pub package_apart : (meta : Meta) (os : List Operation) → All Apart (package_lines meta os)
 unfolding package_lines
@@ -166,7 +168,8 @@ numeral_apart line more numeral = subst (λ (l : List ℕ). Apart (l ++ more)) (
 
 versions_apart : (h : History) (n : ℕ) (vs : List Version) → All Apart (version_lines h n vs)
 versions_apart h n [] = no_lines
-versions_apart h n (v ∷ vs) = All-cons Apart (version_line h n v) (version_lines h (suc n) vs) (numeral_apart (decimal n) _ (decimal_numeral n)) (versions_apart h (suc n) vs)
+versions_apart h n (v ∷ vs) =
+    All-cons Apart (version_line h n v) (version_lines h (suc n) vs) (numeral_apart (decimal n) _ (decimal_numeral n)) (versions_apart h (suc n) vs)
 
 pub log_apart : (h : History) → All Apart (log_lines h)
 unfolding log_lines

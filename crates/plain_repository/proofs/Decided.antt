@@ -1,5 +1,6 @@
 -- Each event that a command is answered with could be made.
-use Rattle.std.proofs.Common.{◌≡◌, ℕ, ◌<◌, ◌&&◌, nat_lt, nat_le, nat_eq, not, List, [], ◌∷◌, length, Bool, true, false, Option, None, Some, is_none, is_some, Result, Ok, Err, is_ok, cond, refl, sym, ◌∙◌, ap, subst}
+use Rattle.std.proofs.Common.{◌≡◌, ℕ, ◌<◌, ◌&&◌, nat_lt, nat_le, nat_eq, not, List, [], ◌∷◌, length, Bool, true, false, Option, None, Some, is_none}
+use Rattle.std.proofs.Common.{is_some, Result, Ok, Err, is_ok, cond, refl, sym, ◌∙◌, ap, subst}
 use Rattle.std.specs.Prelude.{◌+◌, ◌^◌, IsTrue, unwrap_or, if◌then◌else◌}
 use Rattle.std.specs.Fmt.{decimal}
 use Rattle.std.specs.List.{slice_split}
@@ -45,7 +46,8 @@ use Rattle.merge_laws.specs.Choices.{are_choices}
 use Rattle.merge_laws.specs.Pairs.{have_pair, first_interfering}
 use Rattle.tidy_laws.specs.Tidy.{is_tidy}
 use Rattle.op_form.specs.declared.event.Event.{Event}
-use Rattle.op_form.specs.declared.event.Event.TheVariants.{Init, Checkout, Edit, Begin, End, Undo, Discard, Tidy, Commit, Branch, Tag, Update, Merge, Drop, Evolve, Upgrade, Signed}
+use Rattle.op_form.specs.declared.event.Event.TheVariants.{Init, Checkout, Edit, Begin, End, Undo, Discard, Tidy, Commit, Branch, Tag, Update, Merge}
+use Rattle.op_form.specs.declared.event.Event.TheVariants.{Drop, Evolve, Upgrade, Signed}
 use Rattle.op_form.specs.Events.{event_encoding}
 use Rattle.op_form.specs.Formed.{is_event, is_package}
 use Rattle.op_reading.specs.declared.fault.FormFault.{FormFault}
@@ -61,15 +63,20 @@ use Rattle.plain_repository.specs.Answers.{Decision, refused, told, most_events,
 use Rattle.plain_repository.specs.Specs.{named}
 use Rattle.plain_repository.specs.Metamodels.{with_metamodel, decide_init, extension_of, extended, evolve_read, decide_evolve}
 use Rattle.plain_repository.specs.Checkouts.{checkout_of, decide_checkout, drop_of, decide_drop}
-use Rattle.plain_repository.specs.Commits.{is_new_branch, can_commit, version_made, commit_of, decide_commit, signed_of, decide_signed, decide_upgrade, branch_of, decide_branch, tag_of, decide_tag}
-use Rattle.plain_repository.specs.Edits.{takes, can_follow, id_words, with_operation, edited, edit_in, decide_edit, imported, import_read, import_in, decide_import}
+use Rattle.plain_repository.specs.Commits.{is_new_branch, can_commit, version_made, commit_of, decide_commit, signed_of, decide_signed}
+use Rattle.plain_repository.specs.Commits.{decide_upgrade, branch_of, decide_branch, tag_of, decide_tag}
+use Rattle.plain_repository.specs.Edits.{takes, can_follow, id_words, with_operation, edited, edit_in, decide_edit, imported, import_read, import_in}
+use Rattle.plain_repository.specs.Edits.{decide_import}
 use Rattle.plain_repository.specs.Composites.{can_begin, begun, decide_begin, ended, decide_end}
 use Rattle.plain_repository.specs.Local.{can_undo, can_discard, undone, decide_undo, discarded, decide_discard}
 use Rattle.plain_repository.specs.Tidying.{can_tidy, tidy_of, decide_tidy}
-use Rattle.plain_repository.specs.Applying.{with_operations, applied, apply_read, apply_in, decide_apply, bytes_of_lines, load_read, load_bytes, load_in, decide_load, taken_out, revert_found, revert_in, decide_revert}
+use Rattle.plain_repository.specs.Applying.{with_operations, applied, apply_read, apply_in, decide_apply, bytes_of_lines, load_read, load_bytes}
+use Rattle.plain_repository.specs.Applying.{load_in, decide_load, taken_out, revert_found, revert_in, decide_revert}
 use Rattle.plain_repository.specs.Choices.{chosen}
-use Rattle.plain_repository.specs.Merging.{update_buckets, can_update, update_in, decide_update, is_other_branch, has_theirs, merge_buckets, can_merge, merge_named, merge_in, decide_merge}
-use Rattle.plain_repository.specs.Views.{changes_of, decide_changes, shown, decide_show, validated, decide_validate, text_of, decide_cat, package_of, decide_package, decide_log}
+use Rattle.plain_repository.specs.Merging.{update_buckets, can_update, update_in, decide_update, is_other_branch, has_theirs, merge_buckets}
+use Rattle.plain_repository.specs.Merging.{can_merge, merge_named, merge_in, decide_merge}
+use Rattle.plain_repository.specs.Views.{changes_of, decide_changes, shown, decide_show, validated, decide_validate, text_of, decide_cat, package_of}
+use Rattle.plain_repository.specs.Views.{decide_package, decide_log}
 use Rattle.plain_repository.specs.Repository.{block_text, decide_begun, decide_with, decide_command}
 use Rattle.plain_repository.specs.Events.{playable, playable_with, suits}
 use Rattle.plain_repository.specs.Orderly.{Orderly}
@@ -111,7 +118,8 @@ fits_there s lines words e suited can event is = by (nat_le most_events s.events
         (and_from (nat_lt s.events most_events && fits_record e && suits s.upgraded e) (playable_with s s.meta e)
         (and_from (nat_lt s.events most_events && fits_record e) (suits s.upgraded e) room suited) can)
 
-    by : (full : Bool) → nat_le most_events s.events ≡ full → (formed : Bool) → is_event e ≡ formed → (fit : Fit) → fit_of s.end (length (event_encoding e)) ≡ fit
+    by : (full : Bool) → nat_le most_events s.events ≡ full → (formed : Bool) → is_event e ≡ formed → (fit : Fit)
+        → fit_of s.end (length (event_encoding e)) ≡ fit
         → (cond full (refused refusals.HistoryFull) (cond formed (by_fit fit lines words e) (refused refusals.TooLarge))).event ≡ Some event
         → (nat_lt s.events most_events && fits_record event && suits s.upgraded event && playable_with s s.meta event) ≡ true
     by true few formed formed_is fit fits_is is = absurd cc
@@ -120,7 +128,8 @@ fits_there s lines words e suited can event is = by (nat_le most_events s.events
     by false few true formed_is fits.TooLarge fits_is is = absurd cc
     by false few true formed_is fits.Full fits_is is = absurd cc
 
-could_with : (s : State) (lines : List (List ℕ)) (words : List ℕ) (e : Event) → suits s.upgraded e ≡ true → playable_with s s.meta e ≡ true → Could s (with_room s lines words e)
+could_with : (s : State) (lines : List (List ℕ)) (words : List ℕ) (e : Event) → suits s.upgraded e ≡ true → playable_with s s.meta e ≡ true
+    → Could s (with_room s lines words e)
 could_with s lines words e suited can = record { holds = fits_there s lines words e suited can }
 
 -- a decision without an event
@@ -158,11 +167,13 @@ module _ (s : State) (meta : Meta) (has : HasMetamodel s meta) where
   order = kept s meta has
 
   -- an event, by the test of its kind
-  could : (lines : List (List ℕ)) (words : List ℕ) (e : Event) → suits s.upgraded e ≡ true → playable_with s (Some meta) e ≡ true → Could s (with_room s lines words e)
+  could : (lines : List (List ℕ)) (words : List ℕ) (e : Event) → suits s.upgraded e ≡ true → playable_with s (Some meta) e ≡ true
+      → Could s (with_room s lines words e)
   could lines words e suited can = could_with s lines words e suited (subst (λ (m : Option Meta). playable_with s m e ≡ true) (sym has.begun) can)
 
   -- and by a test of the workspace of its number
-  could_in : (lines : List (List ℕ)) (words : List ℕ) (e : Event) → suits s.upgraded e ≡ true → (ws : ℕ) (test : Option Workspace → Bool) (w : Workspace) → workspace_of s ws ≡ Some w
+  could_in : (lines : List (List ℕ)) (words : List ℕ) (e : Event) → suits s.upgraded e ≡ true
+      → (ws : ℕ) (test : Option Workspace → Bool) (w : Workspace) → workspace_of s ws ≡ Some w
       → playable_with s (Some meta) e ≡ test (workspace_of s ws)
       → test (Some w) ≡ true → Could s (with_room s lines words e)
   could_in lines words e suited ws test w there tests can = could lines words e suited (tests ∙ ap test there ∙ can)
@@ -200,10 +211,12 @@ module _ (s : State) (meta : Meta) (has : HasMetamodel s meta) where
   tidy_could ws None there = none refl
   tidy_could ws (Some w) there =
       unless (is_open (Some w)) (none refl) (λ shut. unless (is_tidy meta w.operations) (none refl) (λ untidy.
-      could_in _ _ (Tidy ws) refl ws (can_tidy meta) w there refl (and_from (is_closed (Some w)) (not (is_tidy meta w.operations)) (ap not shut) (ap not untidy))))
+      could_in _ _ (Tidy ws) refl ws (can_tidy meta) w there refl
+      (and_from (is_closed (Some w)) (not (is_tidy meta w.operations)) (ap not shut) (ap not untidy))))
 
   -- ---- the history
-  version_could : (w : Workspace) (event : Event) → suits s.upgraded event ≡ true → (can_commit s.history (Some w) ≡ true → playable_with s (Some meta) event ≡ true) → Could s (version_made s w event)
+  version_could : (w : Workspace) (event : Event) → suits s.upgraded event ≡ true
+      → (can_commit s.history (Some w) ≡ true → playable_with s (Some meta) event ≡ true) → Could s (version_made s w event)
   version_could w event suited can =
       let at_head : Bool = nat_eq w.base (head s.history w.branch) in
       unless (not at_head) (none refl) (λ now. unless (is_open (Some w)) (none refl) (λ shut. if_only (has_local (Some w)) (λ some.
@@ -216,7 +229,8 @@ module _ (s : State) (meta : Meta) (has : HasMetamodel s meta) where
   commit_could ws message (Some w) there =
       unless s.upgraded (none refl) (λ old. version_could w (Commit ws message) (ap not old) (λ can. ap (can_commit s.history) there ∙ can))
 
-  signed_could : (ws : ℕ) (author : List ℕ) (moment : ℕ) (message : List ℕ) → is_name author ≡ true → (o : Option Workspace) → workspace_of s ws ≡ o → Could s (signed_of s ws author moment message o)
+  signed_could : (ws : ℕ) (author : List ℕ) (moment : ℕ) (message : List ℕ) → is_name author ≡ true → (o : Option Workspace) → workspace_of s ws ≡ o
+      → Could s (signed_of s ws author moment message o)
   signed_could ws author moment message is None there = none refl
   signed_could ws author moment message is (Some w) there =
       if_only s.upgraded (λ new. version_could w (Signed ws author moment message) new
@@ -358,7 +372,8 @@ module _ (s : State) (meta : Meta) (has : HasMetamodel s meta) where
       let leads = no_stop_leads meta (model w) (steps_all os) is in
       operations_could ws w there os (λ x xs same.
       let taken : is_some (fold_package meta (model w) (x ∷ xs)) ≡ true = ap is_some (ap (fold_package meta (model w)) (sym same) ∙ leads.1) in
-      and_from (takes w.composite (x ∷ xs)) (is_some (fold_package meta (model w) (x ∷ xs))) (subst (λ (l : List Operation). takes w.composite l ≡ true) same fits) taken)
+      and_from (takes w.composite (x ∷ xs)) (is_some (fold_package meta (model w) (x ∷ xs)))
+      (subst (λ (l : List Operation). takes w.composite l ≡ true) same fits) taken)
 
   apply_could : (ws : ℕ) (bytes : List ℕ) (o : Option Workspace) → workspace_of s ws ≡ o → Could s (apply_in s meta ws o bytes)
   apply_could ws bytes None there = none refl
@@ -422,7 +437,9 @@ module _ (s : State) (meta : Meta) (has : HasMetamodel s meta) where
   package_none (Ok found) = either (is_package (package_at s.history.versions found.version)) (λ _. none refl) (λ _. none refl)
 
   command_could : (block : Option (List ℕ)) (command : Command) → IsCommand command → GivesNumbers s block command → Could s (decide_begun s meta block command)
-  unfolding decide_init decide_evolve decide_checkout decide_drop decide_commit decide_signed decide_upgrade decide_branch decide_tag decide_edit decide_import decide_begin decide_end decide_undo decide_discard decide_tidy decide_apply decide_load decide_revert decide_update decide_merge decide_changes decide_show decide_validate decide_cat decide_package decide_log
+  unfolding decide_init decide_evolve decide_checkout decide_drop decide_commit decide_signed decide_upgrade decide_branch decide_tag decide_edit
+      decide_import decide_begin decide_end decide_undo decide_discard decide_tidy decide_apply decide_load decide_revert decide_update decide_merge
+      decide_changes decide_show decide_validate decide_cat decide_package decide_log
   command_could block commands.Init form gives = none refl
   command_could block commands.Evolve form gives = evolve_could (block_text block) (metamodel_of (block_text block)) refl
   command_could block (commands.Checkout spec) form gives = checkout_could spec (named s.history spec) refl
@@ -440,7 +457,8 @@ module _ (s : State) (meta : Meta) (has : HasMetamodel s meta) where
   command_could block (commands.Cat spec) form gives = text_none (named s.history spec)
   command_could block (commands.Validate ws) form gives = validated_none (workspace_of s ws)
   command_could block (commands.Commit ws message) form gives = commit_could ws (unwrap_or message []) (workspace_of s ws) refl
-  command_could block (commands.Signed ws author moment message) form gives = signed_could ws author moment (unwrap_or message []) form.1 (workspace_of s ws) refl
+  command_could block (commands.Signed ws author moment message) form gives =
+      signed_could ws author moment (unwrap_or message []) form.1 (workspace_of s ws) refl
   command_could block (commands.Branch ws name) form gives = branch_could ws name form.1 (workspace_of s ws) refl
   command_could block (commands.Tag name spec) form gives =
       unless (has_tag s.history name) (none refl) (λ new. tag_could name form.0 new spec (named s.history spec) refl)

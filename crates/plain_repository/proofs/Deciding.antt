@@ -1,5 +1,6 @@
 -- Each file of bytes stands for a list of events, or is damaged at an offset: it is read from its header on.
-use Rattle.std.proofs.Common.{◌≡◌, ◌⊎◌, inl, inr, ℕ, zero, suc, ◌+◌, ◌^◌, ◌<◌, ◌≤◌, Bool, true, false, List, [], ◌∷◌, ◌++◌, Result, Ok, Err, length, take, drop, get_or, refl, sym, ◌∙◌, ap, subst, arith, take-suc, w32}
+use Rattle.std.proofs.Common.{◌≡◌, ◌⊎◌, inl, inr, ℕ, zero, suc, ◌+◌, ◌^◌, ◌<◌, ◌≤◌, Bool, true, false, List, [], ◌∷◌, ◌++◌, Result, Ok, Err, length}
+use Rattle.std.proofs.Common.{take, drop, get_or, refl, sym, ◌∙◌, ap, subst, arith, take-suc, w32}
 use Rattle.std.specs.Prelude.{IsTrue, map}
 use Rattle.std.specs.Int.{from_be_bytes}
 use Rattle.std.proofs.lemmas.Bool.{cases_lt, cases_order}
@@ -71,7 +72,8 @@ module _ (file : List ℕ) (bytes : AreBytes file) (long : new_size < length fil
   header_from zero i is same = let whole : i ≡ 16 = omega (arith, is) in inl (subst (λ (k : ℕ). take k file ≡ take k header) whole same)
   header_from (suc n) i is same = elim (cases_order (get_or file i 0) (get_or header i 0)) [
     | inl equal ↦ header_from n (suc i) (omega (arith, is)) (take-suc file i 0 (omega (arith, is, long))
-        ∙ ap (λ (l : List ℕ). l ++ get_or file i 0 ∷ []) same ∙ ap (λ (b : ℕ). take i header ++ b ∷ []) equal ∙ sym (take-suc header i 0 (omega (arith, is, length-header))))
+        ∙ ap (λ (l : List ℕ). l ++ get_or file i 0 ∷ []) same ∙ ap (λ (b : ℕ). take i header ++ b ∷ []) equal
+        ∙ sym (take-suc header i 0 (omega (arith, is, length-header))))
     | inr other ↦ inr (
       i,
       record {
@@ -83,12 +85,14 @@ module _ (file : List ℕ) (bytes : AreBytes file) (long : new_size < length fil
   ]
 
   -- the records up to an offset are those of some events
-  module _ (events : List Event) (place : ℕ) (low : place < 2 ^ 40) (could : IsTrue (are_playable empty events)) (reads : ReadsTo file (map event_encoding events) place) where
+  module _ (events : List Event) (place : ℕ) (low : place < 2 ^ 40) (could : IsTrue (are_playable empty events))
+      (reads : ReadsTo file (map event_encoding events) place) where
     abbrev state : State
     state = played play empty events
 
     stuck_there : IsStuck file place → StandsOrIsDamaged file
-    stuck_there stuck = inr (place, record { long = long; found = inr (record { events = events; playable = could; reads = reads; low = low; stuck = inl stuck }) })
+    stuck_there stuck = inr
+        (place, record { long = long; found = inr (record { events = events; playable = could; reads = reads; low = low; stuck = inl stuck }) })
 
     closed_there : IsClosed file place → StandsOrIsDamaged file
     closed_there closed = inl (
@@ -123,7 +127,8 @@ module _ (file : List ℕ) (bytes : AreBytes file) (long : new_size < length fil
             stuck = inr (record {
               bytes = form;
               reads = subst (λ (n : ℕ). ReadsTo file (map event_encoding events ++ form ∷ []) n) length_is form_reads;
-              no_event = λ more could_all is. none_has events more form [] could none could_all (is ∙ sym (append-nil (map event_encoding events ++ form ∷ [])));
+              no_event = λ more could_all is.
+                  none_has events more form [] could none could_all (is ∙ sym (append-nil (map event_encoding events ++ form ∷ [])));
             });
           });
         },
@@ -131,7 +136,8 @@ module _ (file : List ℕ) (bytes : AreBytes file) (long : new_size < length fil
 
       module _ (on : (event : Event) → IsTrue (playable state event) → form ≡ event_encoding event → StandsOrIsDamaged file) where
         tested : (event : Event) → whole_of event_at form ≡ Ok event → (can : Bool) → playable state event ≡ can → StandsOrIsDamaged file
-        tested event read true can = on event can (decoded form event (are_bytes-take size (drop (place + 5) file) (are_bytes-drop (place + 5) file bytes)) read).1
+        tested event read true can =
+            on event can (decoded form event (are_bytes-take size (drop (place + 5) file) (are_bytes-drop (place + 5) file bytes)) read).1
         tested event read false cannot = no_event_there (other_spelled state form event read cannot)
 
         read_there : (read : Result Event FormFault) → whole_of event_at form ≡ read → StandsOrIsDamaged file
@@ -139,15 +145,19 @@ module _ (file : List ℕ) (bytes : AreBytes file) (long : new_size < length fil
         read_there (Ok event) read = tested event read (playable state event) refl
 
   -- from an offset on, where so many bytes are left at most
-  from_place : (left place : ℕ) → length file ≤ left + place → (events : List Event) → place < 2 ^ 40 → IsTrue (are_playable empty events) → ReadsTo file (map event_encoding events) place → StandsOrIsDamaged file
+  from_place : (left place : ℕ) → length file ≤ left + place → (events : List Event) → place < 2 ^ 40 → IsTrue (are_playable empty events)
+      → ReadsTo file (map event_encoding events) place → StandsOrIsDamaged file
   from_place zero place few events low could reads = stuck_there events place low could reads (past_end file place (omega (arith, few)))
   from_place (suc left) place few events low could reads = elim (at_gate file bytes place) [
     | inl closed ↦ closed_there events place low could reads closed
     | inr other ↦ elim other [
       | inl stuck ↦ stuck_there events place low could reads stuck
       | inr found ↦ read_there events place low could reads found.0 found.1
-          (λ event can is. from_place left (place + 5 + found.0) (omega (arith, few)) (events ++ event ∷ []) found.1.2 (playable-more empty events event could can)
-          (subst (λ (l : List (List ℕ)). ReadsTo file l (place + 5 + found.0)) (ap (λ (l : List ℕ). map event_encoding events ++ l ∷ []) is ∙ sym (map-more events event)) (form_reads events place low could reads found.0 found.1)))
+          (λ event can is. from_place left (place + 5 + found.0) (omega (arith, few)) (events ++ event ∷ []) found.1.2
+          (playable-more empty events event could can)
+          (subst (λ (l : List (List ℕ)). ReadsTo file l (place + 5 + found.0))
+          (ap (λ (l : List ℕ). map event_encoding events ++ l ∷ []) is ∙ sym (map-more events event))
+          (form_reads events place low could reads found.0 found.1)))
           (whole_of event_at (take found.0 (drop (place + 5) file))) refl
     ]
   ]
@@ -157,6 +167,7 @@ each_file file bytes = elim (cases_lt new_size (length file)) [
   | inr few ↦ inl ([], record { forms = inl (few, refl); playable = refl })
   | inl long ↦ elim (header_from file bytes long 16 0 refl refl) [
     | inr none ↦ inr (none.0, record { long = long; found = inl none.1 })
-    | inl whole ↦ from_place file bytes long (length file) 16 (omega arith) [] (omega arith) refl (record { prefix = whole ∙ sym (append-nil header); place_is = refl; sizes = λ k d low. absurd (omega (arith, low)) })
+    | inl whole ↦ from_place file bytes long (length file) 16 (omega arith) [] (omega arith) refl
+        (record { prefix = whole ∙ sym (append-nil header); place_is = refl; sizes = λ k d low. absurd (omega (arith, low)) })
   ]
 ]

@@ -1,5 +1,6 @@
 -- What each event makes of the working models and of the history.
-use Rattle.std.proofs.Common.{◌≡◌, ℕ, zero, suc, ◌-◌, ◌<◌, ◌&&◌, not, nat_lt, List, [], ◌∷◌, ◌++◌, length, take, true, false, Option, None, Some, is_some, refl, sym, ◌∙◌, ap, subst, arith}
+use Rattle.std.proofs.Common.{◌≡◌, ℕ, zero, suc, ◌-◌, ◌<◌, ◌&&◌, not, nat_lt, List, [], ◌∷◌, ◌++◌, length, take, true, false, Option, None, Some}
+use Rattle.std.proofs.Common.{is_some, refl, sym, ◌∙◌, ap, subst, arith}
 use Rattle.std.specs.Prelude.{IsTrue, slice_get, unwrap_or}
 use Rattle.ecore_meta.specs.Meta.{Meta}
 use Rattle.model_state.specs.Names.{is_name}
@@ -22,7 +23,9 @@ use Rattle.plain_repository.specs.Edits.{takes, with_more, can_follow}
 use Rattle.plain_repository.specs.Composites.{with_open, composed, operation_of_open, with_closed}
 use Rattle.plain_repository.specs.Local.{without_last, without_any}
 use Rattle.plain_repository.specs.Events.{play, playable, playable_with}
-use Rattle.plain_repository.specs.EffectLaws.{InitsBegin, EditsLead, CheckoutsShowVersions, BeginsKeepModels, EndsKeepModels, EndsAreUndone, DiscardsGoBack, DropsTakeAway, CommitsKeepStates, BranchesKeepModels, BranchesStartAtBases, TagsNameVersions}
+use Rattle.plain_repository.specs.EffectLaws.{InitsBegin, EditsLead, CheckoutsShowVersions, BeginsKeepModels, EndsKeepModels, EndsAreUndone}
+use Rattle.plain_repository.specs.EffectLaws.{DiscardsGoBack, DropsTakeAway, CommitsKeepStates, BranchesKeepModels, BranchesStartAtBases}
+use Rattle.plain_repository.specs.EffectLaws.{TagsNameVersions}
 use Rattle.plain_repository.proofs.Commits as commits
 use Rattle.plain_repository.proofs.Encodings.{and_left, and_right, not_so}
 use Rattle.plain_repository.proofs.Names.{new_branch_found, new_tag_found}
@@ -50,7 +53,8 @@ has_value : {X : Type 0} (o : Option X) → is_some o ≡ true → (x : X) × (o
 has_value None is = absurd cc
 has_value (Some x) is = (x, refl)
 
-follows : (s : State) (meta : Meta) (w : Workspace) (os : List Operation) → can_follow meta s.history (Some w) os ≡ true → is_some (fold_package meta (model_of meta s.history w) os) ≡ true
+follows : (s : State) (meta : Meta) (w : Workspace) (os : List Operation) → can_follow meta s.history (Some w) os ≡ true
+    → is_some (fold_package meta (model_of meta s.history w) os) ≡ true
 follows s meta w [] can = absurd cc
 follows s meta w (o ∷ os) can = and_right (takes w.composite (o ∷ os)) (is_some (fold_package meta (model_of meta s.history w) (o ∷ os))) can
 
@@ -168,7 +172,8 @@ commits_keep_states s meta ws signature message w c =
     let k = kept s meta c.in_state in
     let can = commits.version_could s meta ws signature message w c.in_state.begun c.could c.there in
     let closed = commits.closed s meta k ws w signature message c.there can in
-    ap (λ (x : State). state_of meta x.history n) (commits.version_effect s ws signature message ∙ ap (λ (o : Option Workspace). with_commit ws signature message o s) c.there)
+    ap (λ (x : State). state_of meta x.history n)
+    (commits.version_effect s ws signature message ∙ ap (λ (o : Option Workspace). with_commit ws signature message o s) c.there)
     ∙ at_base meta (with_version s.history (version_of w signature message)) w n w.composite refl closed
     ∙ commits.commit_model s meta k ws w signature message c.there can
 

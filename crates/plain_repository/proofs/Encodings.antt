@@ -1,5 +1,6 @@
 -- The bytes of an event that could be made say which it is.
-use Rattle.std.proofs.Common.{◌≡◌, ℕ, ◌≤◌, nat_le, length-append, List, [], ◌∷◌, Bool, true, false, ◌&&◌, nat_lt, length, refl, sym, ◌∙◌, ap, subst, arith, append-nil}
+use Rattle.std.proofs.Common.{◌≡◌, ℕ, ◌≤◌, nat_le, length-append, List, [], ◌∷◌, Bool, true, false, ◌&&◌, nat_lt, length, refl, sym, ◌∙◌, ap, subst}
+use Rattle.std.proofs.Common.{arith, append-nil}
 use Rattle.std.specs.Prelude.{IsTrue, map, not}
 use Rattle.std.proofs.lemmas.Bool.{leb-true}
 use Rattle.byte_form.proofs.FieldLemmas.{apart}
@@ -37,7 +38,8 @@ pub fitting : (s : State) (e : Event) → IsTrue (playable s e) → IsTrue (fits
 unfolding playable
 fitting s e could =
     let room : Bool = nat_lt s.events most_events in
-    and_right room (fits_record e) (and_left (room && fits_record e) (suits s.upgraded e) (and_left (room && fits_record e && suits s.upgraded e) (playable_with s s.meta e) could))
+    and_right room (fits_record e)
+    (and_left (room && fits_record e) (suits s.upgraded e) (and_left (room && fits_record e && suits s.upgraded e) (playable_with s s.meta e) could))
 
 pub evolve_text_shorter : (text : List ℕ) → length text ≤ length (event_encoding (Evolve text))
 unfolding event_encoding text_encoding
@@ -52,7 +54,8 @@ suiting s e could =
 
 -- the bytes of an event that could be made fit a record
 pub playable_short : (s : State) (e : Event) → IsTrue (playable s e) → length (event_encoding e) ≤ most_bytes
-playable_short s e could = leb-true (length (event_encoding e)) most_bytes (and_right (is_event e) (nat_le (length (event_encoding e)) most_bytes) (fitting s e could))
+playable_short s e could =
+    leb-true (length (event_encoding e)) most_bytes (and_right (is_event e) (nat_le (length (event_encoding e)) most_bytes) (fitting s e could))
 
 -- an event that could be made has a spelling
 pub playable_is_event : (s : State) (e : Event) → IsTrue (playable s e) → IsEvent e
@@ -73,4 +76,6 @@ forms_are s (x ∷ xs) (y ∷ ys) first second is =
     let head : event_encoding x ≡ event_encoding y = cc in
     let tail : map event_encoding xs ≡ map event_encoding ys = cc in
     let same : x ≡ y = form_is s s x y (and_left _ _ first) (and_left _ _ second) head in
-    ap (λ (e : Event). e ∷ xs) same ∙ ap (λ (l : List Event). y ∷ l) (forms_are (play s y) xs ys (subst (λ (e : Event). IsTrue (are_playable (play s e) xs)) same (and_right _ _ first)) (and_right _ _ second) tail)
+    ap (λ (e : Event). e ∷ xs) same
+    ∙ ap (λ (l : List Event). y ∷ l)
+    (forms_are (play s y) xs ys (subst (λ (e : Event). IsTrue (are_playable (play s e) xs)) same (and_right _ _ first)) (and_right _ _ second) tail)

@@ -1,5 +1,6 @@
 -- A metamodel that is extended: runs stay runs, and lead where they led.
-use Rattle.std.proofs.Common.{◌≡◌, ◌⊎◌, inl, inr, ℕ, List, ◌++◌, Bool, true, false, cond, ◌&&◌, not, refl, sym, ap, subst, ◌∙◌, Option, None, Some, Result, Ok, Err, is_none, is_some}
+use Rattle.std.proofs.Common.{◌≡◌, ◌⊎◌, inl, inr, ℕ, List, ◌++◌, Bool, true, false, cond, ◌&&◌, not, refl, sym, ap, subst, ◌∙◌, Option, None, Some}
+use Rattle.std.proofs.Common.{Result, Ok, Err, is_none, is_some}
 use Rattle.std.specs.Prelude.{IsTrue, unwrap_or}
 use Rattle.std.proofs.lemmas.Option.{same_Some}
 use Rattle.ecore_meta.specs.Meta.{Meta}
@@ -25,7 +26,8 @@ use Rattle.history_tree.specs.History.{History}
 use Rattle.history_tree.specs.States.{state_of}
 use Rattle.state_form.specs.Form.{IsStateForm}
 use Rattle.op_form.specs.declared.event.Event.{Event}
-use Rattle.op_form.specs.declared.event.Event.TheVariants.{Init, Checkout, Edit, Begin, End, Undo, Discard, Tidy, Commit, Branch, Tag, Update, Merge, Drop, Evolve, Upgrade, Signed}
+use Rattle.op_form.specs.declared.event.Event.TheVariants.{Init, Checkout, Edit, Begin, End, Undo, Discard, Tidy, Commit, Branch, Tag, Update, Merge}
+use Rattle.op_form.specs.declared.event.Event.TheVariants.{Drop, Evolve, Upgrade, Signed}
 use Rattle.plain_repository.specs.State.{State, Workspace, folded, model_of, recorded_steps}
 use Rattle.plain_repository.specs.Metamodels.{extension_of, can_evolve, grown, with_grown}
 use Rattle.plain_repository.specs.Events.{meta_after}
@@ -51,7 +53,8 @@ module _ (old : Meta) (text : List ℕ) where
   abbrev extends : Meta → Bool
   extends next = is_none (missing old next) && not (is_same old (evolved old next))
 
-  tested : (next : Meta) → metamodel_of text ≡ Ok next → (b : Bool) → extends next ≡ b → is_some (cond b (Some (evolved old next)) None) ≡ true → Extension old text
+  tested : (next : Meta) → metamodel_of text ≡ Ok next → (b : Bool) → extends next ≡ b → is_some (cond b (Some (evolved old next)) None) ≡ true
+      → Extension old text
   tested next read true is could = record {
     next = next;
     read = read;
@@ -98,7 +101,8 @@ module _ (old new : Meta) (grew : Evolves old new) where
     heads = orderly.heads;
     names = orderly.names;
     versions = λ v within. run_stays (steps_to s.history v) (orderly.versions v within);
-    workspaces = all_weaker (InOrder old s.history) (InOrder new s.history) (λ w h. record { stands = h.stands; runs = run_stays (steps_to s.history w.base ++ recorded_steps w) h.runs }) s.workspaces orderly.workspaces;
+    workspaces = all_weaker (InOrder old s.history) (InOrder new s.history)
+        (λ w h. record { stands = h.stands; runs = run_stays (steps_to s.history w.base ++ recorded_steps w) h.runs }) s.workspaces orderly.workspaces;
   }
 
   pub version_stays : (h : History) (v : ℕ) → RunsTo old h v → state_of new h v ≡ state_of old h v

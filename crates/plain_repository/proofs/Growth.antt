@@ -4,7 +4,8 @@ use Rattle.std.specs.Prelude.{IsTrue}
 use Rattle.ecore_meta.specs.Meta.{Meta}
 use Rattle.history_tree.specs.History.{History, first_history}
 use Rattle.op_form.specs.declared.event.Event.{Event}
-use Rattle.op_form.specs.declared.event.Event.TheVariants.{Init, Checkout, Edit, Begin, End, Undo, Discard, Tidy, Commit, Branch, Tag, Update, Merge, Drop, Evolve, Upgrade, Signed}
+use Rattle.op_form.specs.declared.event.Event.TheVariants.{Init, Checkout, Edit, Begin, End, Undo, Discard, Tidy, Commit, Branch, Tag, Update, Merge}
+use Rattle.op_form.specs.declared.event.Event.TheVariants.{Drop, Evolve, Upgrade, Signed}
 use Rattle.plain_repository.specs.State.{State, Workspace, workspace_of}
 use Rattle.history_tree.specs.declared.version.Signature.{Signature}
 use Rattle.plain_repository.specs.Commits.{version_of, with_commit, with_new_branch}
@@ -22,9 +23,16 @@ one_more xs x = (x ∷ [], refl)
 same_history : (h : History) → Grows h h
 same_history h = record { versions = same_list h.versions; branches = same_list h.branches; tags = same_list h.tags }
 
-commit_grown : (s : State) (k : ℕ) (signature : Option Signature) (message : List ℕ) (o : Option Workspace) → Grows s.history (with_commit k signature message o s).history
+commit_grown : (s : State) (k : ℕ) (signature : Option Signature) (message : List ℕ) (o : Option Workspace)
+    → Grows s.history (with_commit k signature message o s).history
 commit_grown s k signature message None = same_history s.history
-commit_grown s k signature message (Some w) = record { versions = one_more s.history.versions (version_of w signature message); branches = same_list s.history.branches; tags = same_list s.history.tags }
+commit_grown s k signature message (Some w) =
+    record {
+      versions = one_more s.history.versions (version_of w signature message);
+      branches = same_list s.history.branches;
+      tags =
+          same_list s.history.tags;
+    }
 
 -- where there is a metamodel
 pub grown : (s : State) (meta : Meta) (e : Event) → IsTrue (playable_with s (Some meta) e) → Grows s.history (effect s e).history
@@ -41,8 +49,19 @@ grown s meta (Branch k name) could = by (workspace_of s k)
   where
     by : (o : Option Workspace) → Grows s.history (with_new_branch k name o s).history
     by None = same_history s.history
-    by (Some w) = record { versions = same_list s.history.versions; branches = one_more s.history.branches (record { name = name; start = w.base }); tags = same_list s.history.tags }
-grown s meta (Tag name version) could = record { versions = same_list s.history.versions; branches = same_list s.history.branches; tags = one_more s.history.tags (record { name = name; version = version }) }
+    by (Some w) = record {
+      versions = same_list s.history.versions;
+      branches =
+          one_more s.history.branches (record { name = name; start = w.base });
+      tags = same_list s.history.tags;
+    }
+grown s meta (Tag name version) could =
+    record {
+      versions = same_list s.history.versions;
+      branches = same_list s.history.branches;
+      tags =
+          one_more s.history.tags (record { name = name; version = version });
+    }
 grown s meta (Update k letters) could = same_history s.history
 grown s meta (Merge k branch letters) could = same_history s.history
 grown s meta (Drop k) could = same_history s.history
@@ -51,7 +70,9 @@ grown s meta Upgrade could = same_history s.history
 grown s meta (Signed k author moment message) could = commit_grown s k (Some (record { author = author; moment = moment })) message (workspace_of s k)
 
 effect_grows : (s : State) (m : Option Meta) (e : Event) → s.meta ≡ m → AllOrderly m s → IsTrue (playable_with s m e) → Grows s.history (effect s e).history
-effect_grows s None (Init text) is kept could = subst (λ (h : History). Grows h first_history) (sym kept.1) (record { versions = (first_history.versions, refl); branches = (first_history.branches, refl); tags = ([], refl) })
+effect_grows s None (Init text) is kept could =
+    subst (λ (h : History). Grows h first_history) (sym kept.1)
+    (record { versions = (first_history.versions, refl); branches = (first_history.branches, refl); tags = ([], refl) })
 effect_grows s None (Checkout version branch) is kept could = absurd cc
 effect_grows s None (Edit k operations) is kept could = absurd cc
 effect_grows s None (Begin k name) is kept could = absurd cc

@@ -42,7 +42,9 @@ use Rattle.plain_repository.proofs.Spelled.{AreSpelled, behind, steps_spelled, s
 
 -- a letter for each bucket, so a side for each
 pub sides_fit : (letters : List ℕ) (rows : List Bucket) → are_choices letters rows ≡ true → length (map side_of letters) ≡ length rows
-sides_fit letters rows fit = length-map letters side_of ∙ eqb-true (length letters) (length rows) (and_left (nat_eq (length letters) (length rows)) (list_all is_choice letters) fit)
+sides_fit letters rows fit =
+    length-map letters side_of
+    ∙ eqb-true (length letters) (length rows) (and_left (nat_eq (length letters) (length rows)) (list_all is_choice letters) fit)
 
 module _ (meta : Meta) (sound : Sound meta) (h : History) (whole : IsWhole h) (runs : (v : ℕ) → v < length h.versions → RunsTo meta h v) where
   -- ---- versions
@@ -82,13 +84,16 @@ module _ (meta : Meta) (sound : Sound meta) (h : History) (whole : IsWhole h) (r
       (subst (AllByRecursion IsStep) (closed_steps_are w w.composite refl closed) (behind IsStep (steps_to h w.base) (recorded_steps w) r.spelled))
 
   -- operations that lead from the state of the base to a model are a run to it
-  pub leading_runs : (w : Workspace) (n : models.State) → w.base < length h.versions → is_closed (Some w) ≡ true → Leads meta (state_of meta h w.base) w.operations n → AreSpelled w.operations → Runs meta h w
+  pub leading_runs : (w : Workspace) (n : models.State) → w.base < length h.versions → is_closed (Some w) ≡ true
+      → Leads meta (state_of meta h w.base) w.operations n → AreSpelled w.operations → Runs meta h w
   leading_runs w n there closed leads spelled =
       let same : recorded_steps w ≡ steps_all w.operations = closed_steps_are w w.composite refl closed in
       record {
         model = n;
-        run = ap (λ (l : List Step). fold meta nothing (steps_to h w.base ++ l)) same ∙ fold_append meta nothing (state_of meta h w.base) (steps_to h w.base) (steps_all w.operations) (version_leads w.base there) ∙ leads;
-        spelled = both IsStep (steps_to h w.base) (recorded_steps w) (runs w.base there).spelled (subst (AllByRecursion IsStep) (sym same) (steps_spelled w.operations spelled));
+        run = ap (λ (l : List Step). fold meta nothing (steps_to h w.base ++ l)) same
+            ∙ fold_append meta nothing (state_of meta h w.base) (steps_to h w.base) (steps_all w.operations) (version_leads w.base there) ∙ leads;
+        spelled = both IsStep (steps_to h w.base) (recorded_steps w) (runs w.base there).spelled
+            (subst (AllByRecursion IsStep) (sym same) (steps_spelled w.operations spelled));
       }
 
   -- a workspace in which no composite is open, and the model that its operations lead to
@@ -96,10 +101,12 @@ module _ (meta : Meta) (sound : Sound meta) (h : History) (whole : IsWhole h) (r
     pub runs_to : Runs meta h w
     pub model_is : model_of meta h w ≡ n
 
-  pub led : (w : Workspace) (n : models.State) → w.base < length h.versions → is_closed (Some w) ≡ true → Leads meta (state_of meta h w.base) w.operations n → AreSpelled w.operations → Led w n
+  pub led : (w : Workspace) (n : models.State) → w.base < length h.versions → is_closed (Some w) ≡ true
+      → Leads meta (state_of meta h w.base) w.operations n → AreSpelled w.operations → Led w n
   led w n there closed leads spelled = record {
     runs_to = leading_runs w n there closed leads spelled;
-    model_is = ap (λ (o : Option models.State). unwrap_or o nothing) (ap (λ (l : List Step). fold meta (state_of meta h w.base) l) (closed_steps_are w w.composite refl closed) ∙ leads);
+    model_is = ap (λ (o : Option models.State). unwrap_or o nothing)
+        (ap (λ (l : List Step). fold meta (state_of meta h w.base) l) (closed_steps_are w w.composite refl closed) ∙ leads);
   }
 
   module _ (w : Workspace) (r : InOrder meta h w) (closed : is_closed (Some w) ≡ true) where
@@ -107,7 +114,8 @@ module _ (meta : Meta) (sound : Sound meta) (h : History) (whole : IsWhole h) (r
     pub tidied_led : Led (tidied meta w) (model_of meta h w)
     tidied_led =
         led (tidied meta w) (model_of meta h w) r.stands.base closed
-        (tidy_keeps_effect meta sound (state_of meta h w.base) (model_of meta h w) (version_good w.base r.stands.base) w.operations (local_leads w closed r.runs))
+        (tidy_keeps_effect meta sound (state_of meta h w.base) (model_of meta h w) (version_good w.base r.stands.base) w.operations
+        (local_leads w closed r.runs))
         (tidy_spelled meta w.operations (local_spelled w closed r.runs))
 
     -- ---- an update
@@ -122,7 +130,8 @@ module _ (meta : Meta) (sound : Sound meta) (h : History) (whole : IsWhole h) (r
         (incoming h w.branch w.base) w.operations (after_leads w.base (head h w.branch) at_head r.stands.on_path) (local_leads w closed r.runs)
         (map side_of letters) (sides_fit letters (update_buckets meta h w) fit)
 
-    pub updated_led : (letters : List ℕ) (fit : are_choices letters (update_buckets meta h w) ≡ true) → Led (updated meta h letters w) (update_leads letters fit).0
+    pub updated_led : (letters : List ℕ) (fit : are_choices letters (update_buckets meta h w) ≡ true)
+        → Led (updated meta h letters w) (update_leads letters fit).0
     updated_led letters fit =
         led (updated meta h letters w) (update_leads letters fit).0 at_head closed (update_leads letters fit).1
         (update_spelled (incoming h w.branch w.base) w.operations (update_buckets meta h w) (map side_of letters)
@@ -155,11 +164,14 @@ module _ (meta : Meta) (sound : Sound meta) (h : History) (whole : IsWhole h) (r
 
       pub merge_leads : (letters : List ℕ) → are_choices letters (merge_buckets meta h w other) ≡ true
           → (n : models.State) × Leads meta (model_of meta h w) (merge_tail meta h w other letters) n
-          × (merged meta (state_of meta h start) (merge_theirs h w other) (merge_mine meta h w other) (merge_buckets meta h w other) (map side_of letters) ≡ Some n)
+          × (merged meta (state_of meta h start) (merge_theirs h w other) (merge_mine meta h w other) (merge_buckets meta h w other)
+          (map side_of letters) ≡ Some n)
       merge_leads letters fit =
-          merge_leads_to_merged meta sound (state_of meta h common) (state_of meta h start) (state_of meta h w.base) (state_of meta h other) (model_of meta h w) (version_good common common_there)
+          merge_leads_to_merged meta sound (state_of meta h common) (state_of meta h start) (state_of meta h w.base) (state_of meta h other)
+          (model_of meta h w) (version_good common common_there)
           (operations_after h common start) (operations_after h common w.base) w.operations (operations_after h start other)
-          (after_leads common start start_there common_on_start) (after_leads common w.base r.stands.base common_on_base) (local_leads w closed r.runs) (after_leads start other there start_on_other)
+          (after_leads common start start_there common_on_start) (after_leads common w.base r.stands.base common_on_base)
+          (local_leads w closed r.runs) (after_leads start other there start_on_other)
           (map side_of letters) (sides_fit letters (merge_buckets meta h w other) fit)
 
       mine_spelled : AreSpelled (merge_mine meta h w other)
@@ -169,10 +181,12 @@ module _ (meta : Meta) (sound : Sound meta) (h : History) (whole : IsWhole h) (r
           (package_back (operations_after h common start) (after_spelled common start start_there common_on_start))
           (both _ (operations_after h common w.base) w.operations (after_spelled common w.base r.stands.base common_on_base) (local_spelled w closed r.runs)))
 
-      pub merged_led : (letters : List ℕ) (fit : are_choices letters (merge_buckets meta h w other) ≡ true) → Led (merged_with meta h other letters w) (merge_leads letters fit).0
+      pub merged_led : (letters : List ℕ) (fit : are_choices letters (merge_buckets meta h w other) ≡ true)
+          → Led (merged_with meta h other letters w) (merge_leads letters fit).0
       merged_led letters fit =
           led (merged_with meta h other letters w) (merge_leads letters fit).0 r.stands.base closed
-          (join meta (state_of meta h w.base) (model_of meta h w) (merge_leads letters fit).0 w.operations (merge_tail meta h w other letters) (local_leads w closed r.runs) (merge_leads letters fit).1)
+          (join meta (state_of meta h w.base) (model_of meta h w) (merge_leads letters fit).0 w.operations (merge_tail meta h w other letters)
+          (local_leads w closed r.runs) (merge_leads letters fit).1)
           (both _ w.operations (merge_tail meta h w other letters) (local_spelled w closed r.runs)
           (merge_spelled (merge_theirs h w other) (merge_mine meta h w other) (merge_buckets meta h w other) (map side_of letters)
           (after_spelled start other there start_on_other) mine_spelled))

@@ -21,7 +21,8 @@ use Rattle.op_form.specs.declared.event.Event.{Event}
 use Rattle.op_form.specs.declared.event.Event.TheVariants.{Tidy, Update, Merge}
 use Rattle.plain_repository.specs.State.{State, Workspace, workspace_of, model_of, changed_by_number, is_closed}
 use Rattle.plain_repository.specs.Tidying.{tidied, can_tidy}
-use Rattle.plain_repository.specs.Merging.{update_buckets, updated, can_update, merge_theirs, merge_buckets, merged_with, is_other_branch, has_theirs, can_merge}
+use Rattle.plain_repository.specs.Merging.{update_buckets, updated, can_update, merge_theirs, merge_buckets, merged_with, is_other_branch, has_theirs}
+use Rattle.plain_repository.specs.Merging.{can_merge}
 use Rattle.plain_repository.specs.Events.{by_meta, play, playable, playable_with}
 use Rattle.plain_repository.specs.Orderly.{InOrder, Orderly}
 use Rattle.plain_repository.specs.MergeLaws.{Changes, TidyingKeepsModels, UpdatesMerge, MergesMerge, MergesCount}
@@ -62,13 +63,15 @@ pub tidying_keeps_models : TidyingKeepsModels
 unfolding play
 tidying_keeps_models s meta ws before after c =
     let k : Orderly meta s = orderly_of s meta ws (Tidy ws) before after c in
-    let can : can_tidy meta (Some before) ≡ true = subst (λ (o : Option Workspace). can_tidy meta o ≡ true) c.there (could_with s meta ws (Tidy ws) before after c) in
+    let can : can_tidy meta (Some before) ≡ true =
+    subst (λ (o : Option Workspace). can_tidy meta o ≡ true) c.there (could_with s meta ws (Tidy ws) before after c) in
     let closed : is_closed (Some before) ≡ true = and_left (is_closed (Some before)) (not (is_tidy meta before.operations)) can in
     subst (λ (w : Workspace). model_of meta s.history w ≡ model_of meta s.history before) (tidied_after s meta ws before after c)
     (tidied_led meta k.metamodel.sound s.history k.whole k.versions before (in_order_of s meta ws (Tidy ws) before after c) closed).model_is
 
 -- ---- Update
-updated_after : (s : State) (meta : Meta) (ws : ℕ) (letters : List ℕ) (before after : Workspace) → Changes s meta ws (Update ws letters) before after → updated meta s.history letters before ≡ after
+updated_after : (s : State) (meta : Meta) (ws : ℕ) (letters : List ℕ) (before after : Workspace) → Changes s meta ws (Update ws letters) before after
+    → updated meta s.history letters before ≡ after
 unfolding play
 updated_after s meta ws letters before after c =
     subst (λ (m : Option Meta). by_meta m (λ n. updated n s.history letters) before ≡ after) c.in_state.begun
@@ -80,7 +83,8 @@ updates_merge s meta ws letters before after c =
     let h : History = s.history in
     let k : Orderly meta s = orderly_of s meta ws (Update ws letters) before after c in
     let q : InOrder meta h before = in_order_of s meta ws (Update ws letters) before after c in
-    let can : can_update meta h letters (Some before) ≡ true = subst (λ (o : Option Workspace). can_update meta h letters o ≡ true) c.there (could_with s meta ws (Update ws letters) before after c) in
+    let can : can_update meta h letters (Some before) ≡ true =
+    subst (λ (o : Option Workspace). can_update meta h letters o ≡ true) c.there (could_with s meta ws (Update ws letters) before after c) in
     let apart : Bool = not (nat_eq before.base (head h before.branch)) in
     let fit : Bool = are_choices letters (update_buckets meta h before) in
     let closed : is_closed (Some before) ≡ true = and_left (is_closed (Some before)) apart (and_left (is_closed (Some before) && apart) fit can) in
@@ -90,12 +94,14 @@ updates_merge s meta ws letters before after c =
     ∙ ap (λ (w : Workspace). Some (model_of meta h w)) (updated_after s meta ws letters before after c)
 
 -- ---- Merge
-merged_after : (s : State) (meta : Meta) (ws branch : ℕ) (letters : List ℕ) (before after : Workspace) → Changes s meta ws (Merge ws branch letters) before after
+merged_after : (s : State) (meta : Meta) (ws branch : ℕ) (letters : List ℕ) (before after : Workspace)
+    → Changes s meta ws (Merge ws branch letters) before after
     → merged_with meta s.history (head s.history branch) letters before ≡ after
 unfolding play
 merged_after s meta ws branch letters before after c =
     subst (λ (m : Option Meta). by_meta m (λ n. merged_with n s.history (head s.history branch) letters) before ≡ after) c.in_state.begun
-    (changed_is s ws (by_meta s.meta (λ n. merged_with n s.history (head s.history branch) letters)) before after c.there (made_of s meta ws (Merge ws branch letters) before after c))
+    (changed_is s ws (by_meta s.meta (λ n. merged_with n s.history (head s.history branch) letters)) before after c.there
+    (made_of s meta ws (Merge ws branch letters) before after c))
 
 pub merges_merge : MergesMerge
 unfolding play
@@ -103,7 +109,9 @@ merges_merge s meta ws branch letters before after c =
     let h : History = s.history in
     let k : Orderly meta s = orderly_of s meta ws (Merge ws branch letters) before after c in
     let q : InOrder meta h before = in_order_of s meta ws (Merge ws branch letters) before after c in
-    let can : can_merge meta h branch letters (Some before) ≡ true = subst (λ (o : Option Workspace). can_merge meta h branch letters o ≡ true) c.there (could_with s meta ws (Merge ws branch letters) before after c) in
+    let can : can_merge meta h branch letters (Some before) ≡ true =
+    subst (λ (o : Option Workspace). can_merge meta h branch letters o ≡ true) c.there
+    (could_with s meta ws (Merge ws branch letters) before after c) in
     let other : ℕ = head h branch in
     let there : other < length h.versions = head_within h branch k.whole in
     let closed_is : Bool = is_closed (Some before) in
@@ -117,7 +125,8 @@ merges_merge s meta ws branch letters before after c =
     ∙ ap (λ (w : Workspace). Some (model_of meta h w)) (merged_after s meta ws branch letters before after c)
 
 -- a version that is pending is where its merge begins, so nothing comes after
-pending_settled : (h : History) → IsWhole h → (base : ℕ) (pending : List ℕ) (other : ℕ) → base < length h.versions → other < length h.versions → is_among pending other ≡ true → theirs_of h base pending other ≡ []
+pending_settled : (h : History) → IsWhole h → (base : ℕ) (pending : List ℕ) (other : ℕ) → base < length h.versions → other < length h.versions
+    → is_among pending other ≡ true → theirs_of h base pending other ≡ []
 pending_settled h whole base pending other first second among =
     let start : ℕ = merge_base h base pending other in
     let at : IsMergeBase h base pending other start = base_last h whole base pending other first second in
@@ -134,4 +143,5 @@ merges_count s meta ws branch letters before after c =
     let q : InOrder meta h before = in_order_of s meta ws (Merge ws branch letters) before after c in
     let other : ℕ = head h branch in
     subst (λ (w : Workspace). merge_theirs h w other ≡ []) (merged_after s meta ws branch letters before after c)
-    (pending_settled h k.whole before.base (before.pending ++ other ∷ []) other q.stands.base (head_within h branch k.whole) (among_of (before.pending ++ other ∷ []) other (Contains-push before.pending other)))
+    (pending_settled h k.whole before.base (before.pending ++ other ∷ []) other q.stands.base (head_within h branch k.whole)
+    (among_of (before.pending ++ other ∷ []) other (Contains-push before.pending other)))

@@ -29,7 +29,8 @@ use Rattle.model_state.specs.declared.step.Place.{Place}
 use Rattle.model_state.specs.declared.step.Place.TheVariants.{Root, Inside}
 use Rattle.model_state.specs.declared.step.Step.{Step}
 use Rattle.model_state.specs.declared.step.Step.TheVariants.{Put, Ins, Del, Shift, Link, Unlink, RerankRow, New, Gone, Move, RerankPlace}
-use Rattle.shown_lines.specs.Lines.{after_spaces, class_name, feature_name, lines_from, operation_line, operation_lines, optional, place_word, step_line, step_words, text_of, value_word}
+use Rattle.shown_lines.specs.Lines.{after_spaces, class_name, feature_name, lines_from, operation_line, operation_lines, optional, place_word}
+use Rattle.shown_lines.specs.Lines.{step_line, step_words, text_of, value_word}
 use Rattle.shown_lines.specs.Typed.{AreTyped, IsClass, IsFeature, IsPlace, IsTyped, IsTypedPackage, IsValue, IsValueIfAny, is_value}
 
 there : {X : Type 0} (xs : List X) (k : ℕ) → k < length xs → (x : X) × (slice_get xs k ≡ Some x)

@@ -16,7 +16,9 @@ use Rattle.state_form.specs.Spelled.{IsSpelled}
 use Rattle.state_form.proofs.Builds.{live_id}
 use Rattle.state_form.proofs.Keeps.{nothing_is_spelled, run_keeps}
 use Rattle.plain_repository.specs.State.{State, Workspace, empty, recorded_steps, model_of}
-use Rattle.plain_repository.specs.Laws.{StaysInOrder, AllIsInOrder, HasMetamodel, IsThere, OfModels, OfVersions, HasIds, ModelsAreDefined, VersionsAreDefined, MetamodelsHold, HistoriesAreWhole, WorkspacesStand, BranchesAreNamed, TagsAreNamed, TagNamesDiffer}
+use Rattle.plain_repository.specs.Laws.{StaysInOrder, AllIsInOrder, HasMetamodel, IsThere, OfModels, OfVersions, HasIds, ModelsAreDefined}
+use Rattle.plain_repository.specs.Laws.{VersionsAreDefined, MetamodelsHold, HistoriesAreWhole, WorkspacesStand, BranchesAreNamed, TagsAreNamed}
+use Rattle.plain_repository.specs.Laws.{TagNamesDiffer}
 use Rattle.plain_repository.specs.Orderly.{IsRun, RunsTo, Runs, steps_to, InOrder, Orderly, AllOrderly, IsOrderly}
 use Rattle.plain_repository.proofs.Names.{first_found}
 use Rattle.plain_repository.proofs.Places.{at_number}
@@ -55,12 +57,14 @@ models_are_defined s meta w t =
 pub models_are_good : OfModels Good
 models_are_good s meta w t =
     let r : Runs meta s.history w = (in_order s meta w t).runs in
-    subst (Good meta) (sym (workspace_model meta s.history w r)) (run_good meta (kept s meta t.in_state).metamodel.sound (steps_to s.history w.base ++ recorded_steps w) r)
+    subst (Good meta) (sym (workspace_model meta s.history w r))
+    (run_good meta (kept s meta t.in_state).metamodel.sound (steps_to s.history w.base ++ recorded_steps w) r)
 
 pub models_are_spelled : OfModels IsSpelled
 models_are_spelled s meta w t =
     let r : Runs meta s.history w = (in_order s meta w t).runs in
-    subst (IsSpelled meta) (sym (workspace_model meta s.history w r)) (run_spelled meta (kept s meta t.in_state).metamodel.sound (steps_to s.history w.base ++ recorded_steps w) r)
+    subst (IsSpelled meta) (sym (workspace_model meta s.history w r))
+    (run_spelled meta (kept s meta t.in_state).metamodel.sound (steps_to s.history w.base ++ recorded_steps w) r)
 
 pub models_have_ids : OfModels HasIds
 models_have_ids s meta w t = named meta (model_of meta s.history w) (models_are_spelled s meta w t)

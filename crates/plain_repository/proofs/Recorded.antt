@@ -29,12 +29,15 @@ steps_append [] qs = refl
 steps_append (p ∷ ps) qs = ap (λ l. steps_of p ++ l) (steps_append ps qs) ∙ sym (append_assoc (steps_of p) (steps_all ps) (steps_all qs))
 
 -- the steps of operations that are added after those that are there, or join the composite that is open
-pub more_steps : (more : List Operation) (c : Option Composite) (w : Workspace) → w.composite ≡ c → recorded_steps (added more c w) ≡ recorded_steps w ++ steps_all more
+pub more_steps : (more : List Operation) (c : Option Composite) (w : Workspace) → w.composite ≡ c
+    → recorded_steps (added more c w) ≡ recorded_steps w ++ steps_all more
 more_steps more None w is =
-    append-nil (steps_all (w.operations ++ more)) ∙ steps_append w.operations more ∙ ap (λ (l : List Step). l ++ steps_all more) (sym (append-nil (steps_all w.operations)))
+    append-nil (steps_all (w.operations ++ more)) ∙ steps_append w.operations more
+    ∙ ap (λ (l : List Step). l ++ steps_all more) (sym (append-nil (steps_all w.operations)))
     ∙ ap (λ (c : Option Composite). (steps_all w.operations ++ open_steps c) ++ steps_all more) (sym is)
 more_steps more (Some c) w is =
-    sym (append_assoc (steps_all w.operations) c.steps (steps_all more)) ∙ ap (λ (c : Option Composite). (steps_all w.operations ++ open_steps c) ++ steps_all more) (sym is)
+    sym (append_assoc (steps_all w.operations) c.steps (steps_all more))
+    ∙ ap (λ (c : Option Composite). (steps_all w.operations ++ open_steps c) ++ steps_all more) (sym is)
 
 -- a composite that is opened where none is has no step
 pub opened_steps : (os : List Operation) (c : Option Composite) → is_some c ≡ false → steps_all os ++ [] ≡ steps_all os ++ open_steps c
@@ -48,4 +51,6 @@ closed_steps os (Some c) = filled os c.name c.steps
   where
     filled : (os : List Operation) (name : List ℕ) (steps : List Step) → steps_all (os ++ composed name steps) ++ [] ≡ steps_all os ++ steps
     filled os name [] = ap (λ (l : List Operation). steps_all l ++ []) (append-nil os)
-    filled os name (s ∷ ss) = append-nil (steps_all (os ++ composed name (s ∷ ss))) ∙ steps_append os (composed name (s ∷ ss)) ∙ ap (λ (l : List Step). steps_all os ++ l) (append-nil (s ∷ ss))
+    filled os name (s ∷ ss) =
+        append-nil (steps_all (os ++ composed name (s ∷ ss))) ∙ steps_append os (composed name (s ∷ ss))
+        ∙ ap (λ (l : List Step). steps_all os ++ l) (append-nil (s ∷ ss))

@@ -51,15 +51,18 @@ use Rattle.plain_repository.specs.Answers.{Decision, accepted, most_events, by_f
 use Rattle.plain_repository.specs.Specs.{named}
 use Rattle.plain_repository.specs.Metamodels.{with_metamodel, decide_init, extended, evolve_read, decide_evolve}
 use Rattle.plain_repository.specs.Checkouts.{checkout_of, decide_checkout, drop_of, decide_drop}
-use Rattle.plain_repository.specs.Commits.{is_new_branch, version_made, commit_of, decide_commit, signed_of, decide_signed, decide_upgrade, branch_of, decide_branch, tag_of, decide_tag}
+use Rattle.plain_repository.specs.Commits.{is_new_branch, version_made, commit_of, decide_commit, signed_of, decide_signed, decide_upgrade, branch_of}
+use Rattle.plain_repository.specs.Commits.{decide_branch, tag_of, decide_tag}
 use Rattle.plain_repository.specs.Edits.{takes, id_words, with_operation, edited, edit_in, decide_edit, imported, import_read, import_in, decide_import}
 use Rattle.plain_repository.specs.Composites.{begun, decide_begin, ended, decide_end}
 use Rattle.plain_repository.specs.Local.{can_discard, undone, decide_undo, discarded, decide_discard}
 use Rattle.plain_repository.specs.Tidying.{tidy_of, decide_tidy}
-use Rattle.plain_repository.specs.Applying.{with_operations, applied, apply_read, apply_in, decide_apply, bytes_of_lines, load_package, load_read, load_bytes, load_in, decide_load, taken_out, revert_found, revert_in, decide_revert}
+use Rattle.plain_repository.specs.Applying.{with_operations, applied, apply_read, apply_in, decide_apply, bytes_of_lines, load_package, load_read}
+use Rattle.plain_repository.specs.Applying.{load_bytes, load_in, decide_load, taken_out, revert_found, revert_in, decide_revert}
 use Rattle.plain_repository.specs.Choices.{chosen}
 use Rattle.plain_repository.specs.Merging.{update_buckets, update_in, decide_update, has_theirs, merge_buckets, merge_named, merge_in, decide_merge}
-use Rattle.plain_repository.specs.Views.{changes_of, decide_changes, shown, decide_show, validated, decide_validate, text_of, decide_cat, package_of, decide_package, decide_log}
+use Rattle.plain_repository.specs.Views.{changes_of, decide_changes, shown, decide_show, validated, decide_validate, text_of, decide_cat, package_of}
+use Rattle.plain_repository.specs.Views.{decide_package, decide_log}
 use Rattle.plain_repository.specs.Repository.{block_text, decide_begun, decide_with, decide_command, decide_read, decide_line}
 use Rattle.plain_repository.specs.Laws.{NoneIfRefused, RefusalsMakeNone, is_validate, DataLinesAreApart}
 use Rattle.plain_repository.proofs.DataLines.{Apart, no_lines, changes_apart, package_apart, buckets_apart, text_apart, log_apart}
@@ -135,7 +138,8 @@ module _ (s : State) where
 
   version_told : (w : Workspace) (event : Event) → Told false (version_made s w event)
   version_told w event =
-      either (not (w.base == head s.history w.branch)) (silent refl refl) (either (is_open (Some w)) (silent refl refl) (either (has_local (Some w)) (room _ event) (silent refl refl)))
+      either (not (w.base == head s.history w.branch)) (silent refl refl)
+      (either (is_open (Some w)) (silent refl refl) (either (has_local (Some w)) (room _ event) (silent refl refl)))
 
   commit_told : (ws : ℕ) (message : List ℕ) (o : Option Workspace) → Told false (commit_of s ws message o)
   commit_told ws message None = silent refl refl
@@ -231,7 +235,8 @@ module _ (s : State) where
   load_told meta ws None text = silent refl refl
   load_told meta ws (Some w) text = load_bytes_told meta ws w (bytes_of_lines (slice_split is_lf text))
 
-  taken_out_told : (meta : Meta) (ws : ℕ) (w : Workspace) (operations : List Operation) (interfering : Option ℕ) → Told false (taken_out s meta ws w operations interfering)
+  taken_out_told : (meta : Meta) (ws : ℕ) (w : Workspace) (operations : List Operation) (interfering : Option ℕ)
+      → Told false (taken_out s meta ws w operations interfering)
   taken_out_told meta ws w operations (Some u) = silent refl refl
   taken_out_told meta ws w operations None = either (have_pair meta operations w.operations) (silent refl refl) (operations_made ws (rev_package operations))
 
@@ -240,7 +245,8 @@ module _ (s : State) where
   revert_found_told meta ws w (Ok found) =
       let operations = package_at s.history.versions found.version in
       either (is_among (path s.history w.base) found.version)
-      (taken_out_told meta ws w operations (first_interfering meta s.history.versions operations (path_after s.history found.version w.base))) (silent refl refl)
+      (taken_out_told meta ws w operations (first_interfering meta s.history.versions operations (path_after s.history found.version w.base)))
+      (silent refl refl)
 
   revert_told : (meta : Meta) (ws : ℕ) (o : Option Workspace) (version : ℕ) → Told false (revert_in s meta ws o version)
   revert_told meta ws None version = silent refl refl
@@ -249,13 +255,17 @@ module _ (s : State) where
   -- ---- merging
   update_told : (meta : Meta) (ws : ℕ) (choices : Option (List ℕ)) (o : Option Workspace) → Told false (update_in s meta ws choices o)
   update_told meta ws choices None = silent refl refl
-  update_told meta ws choices (Some w) = either (is_open (Some w)) (silent refl refl) (chosen_told (update_buckets meta s.history w) choices (either (w.base == head s.history w.branch) (silent refl refl) (room _ _)))
+  update_told meta ws choices (Some w) =
+      either (is_open (Some w)) (silent refl refl)
+      (chosen_told (update_buckets meta s.history w) choices (either (w.base == head s.history w.branch) (silent refl refl) (room _ _)))
 
-  merge_named_told : (meta : Meta) (ws : ℕ) (w : Workspace) (choices : Option (List ℕ)) (branch : Option ℕ) → Told false (merge_named s meta ws w choices branch)
+  merge_named_told : (meta : Meta) (ws : ℕ) (w : Workspace) (choices : Option (List ℕ)) (branch : Option ℕ)
+      → Told false (merge_named s meta ws w choices branch)
   merge_named_told meta ws w choices None = silent refl refl
   merge_named_told meta ws w choices (Some branch) =
       either (branch == w.branch) (silent refl refl)
-      (chosen_told (merge_buckets meta s.history w (head s.history branch)) choices (either (has_theirs s.history w (head s.history branch)) (room _ _) (silent refl refl)))
+      (chosen_told (merge_buckets meta s.history w (head s.history branch)) choices
+      (either (has_theirs s.history w (head s.history branch)) (room _ _) (silent refl refl)))
 
   merge_told : (meta : Meta) (ws : ℕ) (name : List ℕ) (choices : Option (List ℕ)) (o : Option Workspace) → Told false (merge_in s meta ws name choices o)
   merge_told meta ws name choices None = silent refl refl
@@ -280,11 +290,14 @@ module _ (s : State) where
 
   package_told : (meta : Meta) (h : History) (found : Result Found FindFault) → Told false (package_of meta h found)
   package_told meta h (Err fault) = silent refl refl
-  package_told meta h (Ok found) = either (is_package (package_at h.versions found.version)) (shows refl (package_apart meta (package_at h.versions found.version))) (silent refl refl)
+  package_told meta h (Ok found) =
+      either (is_package (package_at h.versions found.version)) (shows refl (package_apart meta (package_at h.versions found.version))) (silent refl refl)
 
   -- ---- each command
   command_told : (meta : Meta) (block : Option (List ℕ)) (command : Command) → Told (is_validate command) (decide_begun s meta block command)
-  unfolding decide_init decide_evolve decide_checkout decide_drop decide_commit decide_signed decide_upgrade decide_branch decide_tag decide_edit decide_import decide_begin decide_end decide_undo decide_discard decide_tidy decide_apply decide_load decide_revert decide_update decide_merge decide_changes decide_show decide_validate decide_cat decide_package decide_log
+  unfolding decide_init decide_evolve decide_checkout decide_drop decide_commit decide_signed decide_upgrade decide_branch decide_tag decide_edit
+      decide_import decide_begin decide_end decide_undo decide_discard decide_tidy decide_apply decide_load decide_revert decide_update decide_merge
+      decide_changes decide_show decide_validate decide_cat decide_package decide_log
   command_told meta block commands.Init = silent refl refl
   command_told meta block commands.Evolve = evolve_told (block_text block) meta (metamodel_of (block_text block))
   command_told meta block (commands.Checkout spec) = checkout_told meta (named s.history spec)

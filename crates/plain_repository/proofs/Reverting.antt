@@ -1,5 +1,6 @@
 -- A revert that is accepted leads to the model without the version's package.
-use Rattle.std.proofs.Common.{◌≡◌, ◌≢◌, ℕ, ◌<◌, ◌&&◌, ◌||◌, nat_eq, List, [], ◌∷◌, ◌++◌, Bool, true, false, cond, length, Option, None, Some, is_some, refl, sym, ◌∙◌, ap, subst, arith, append_assoc, append-nil}
+use Rattle.std.proofs.Common.{◌≡◌, ◌≢◌, ℕ, ◌<◌, ◌&&◌, ◌||◌, nat_eq, List, [], ◌∷◌, ◌++◌, Bool, true, false, cond, length, Option, None, Some, is_some}
+use Rattle.std.proofs.Common.{refl, sym, ◌∙◌, ap, subst, arith, append_assoc, append-nil}
 use Rattle.std.specs.Prelude.{All, Contains, nat_le, not, unwrap_or, slice_get}
 use Rattle.std.specs.List.{filter, list_any}
 use Rattle.std.proofs.lemmas.Bool.{ne_eqb}
@@ -84,7 +85,8 @@ not_found true u rest is = absurd cc
 not_found false u rest is = (refl, is)
 
 -- where no version has an operation that interferes, none of their operations does
-versions_apart : (meta : Meta) (vs : List Version) (os : List Operation) (us : List ℕ) → first_interfering meta vs os us ≡ None → NoPair meta os (operations_of vs us)
+versions_apart : (meta : Meta) (vs : List Version) (os : List Operation) (us : List ℕ) → first_interfering meta vs os us ≡ None
+    → NoPair meta os (operations_of vs us)
 versions_apart meta vs os [] none = none_with meta os
 versions_apart meta vs os (u ∷ us) none =
     let c = not_found (have_pair meta os (package_at vs u)) u (first_interfering meta vs os us) none in
@@ -97,19 +99,24 @@ keep_all v (u ∷ us) all =
     ap (λ b. cond (not b) (u ∷ filter (λ w. not (nat_eq w v)) us) (filter (λ w. not (nat_eq w v)) us)) (ne_eqb u v (All-head (λ w. w ≢ v) u us all))
     ∙ ap (λ ws. u ∷ ws) (keep_all v us (All-tail (λ w. w ≢ v) u us all))
 
-without_is : (h : History) → IsWhole h → (v last : ℕ) → last < length h.versions → Contains (path h last) v → (before : List ℕ) → path h v ≡ before ++ v ∷ [] → All (λ u. u < v) before → path_without h v last ≡ before ++ path_after h v last
+without_is : (h : History) → IsWhole h → (v last : ℕ) → last < length h.versions → Contains (path h last) v → (before : List ℕ)
+    → path h v ≡ before ++ v ∷ [] → All (λ u. u < v) before → path_without h v last ≡ before ++ path_after h v last
 without_is h whole v last there on before is below =
     let after : List ℕ = path_after h v last in
     let test = λ (u : ℕ). not (nat_eq u v) in
     ap (filter test) (path_splits h whole v last there on ∙ ap (λ us. us ++ after) is)
     ∙ filter-append test (before ++ v ∷ []) after
     ∙ (λ i. (filter-append test before (v ∷ []) i) ++ filter test after)
-    ∙ (λ i. (keep_all v before (All-weaker (λ u. u < v) (λ u. u ≢ v) (λ u low. omega (arith, low)) before below) i ++ cond (not (heads.same_number v i)) (v ∷ []) []) ++ keep_all v after (All-weaker (λ u. v < u) (λ u. u ≢ v) (λ u high. omega (arith, high)) after (after_above h v last)) i)
+    ∙ (λ i. (keep_all v before (All-weaker (λ u. u < v) (λ u. u ≢ v) (λ u low. omega (arith, low)) before below) i
+    ++ cond (not (heads.same_number v i)) (v ∷ []) [])
+    ++ keep_all v after (All-weaker (λ u. v < u) (λ u. u ≢ v) (λ u high. omega (arith, high)) after (after_above h v last)) i)
     ∙ ap (λ us. us ++ after) (append-nil before)
 
 -- ---- the package is taken out
-module _ (meta : Meta) (sound : Sound meta) (h : History) (whole : IsWhole h) (runs : (v : ℕ) → v < length h.versions → RunsTo meta h v) (w : Workspace) (r : InOrder meta h w) (closed : is_closed (Some w) ≡ true) (v : ℕ) (on : Contains (path h w.base) v)
-    (free : first_interfering meta h.versions (package_at h.versions v) (path_after h v w.base) ≡ None) (apart : have_pair meta (package_at h.versions v) w.operations ≡ false) where
+module _ (meta : Meta) (sound : Sound meta) (h : History) (whole : IsWhole h) (runs : (v : ℕ) → v < length h.versions → RunsTo meta h v)
+    (w : Workspace) (r : InOrder meta h w) (closed : is_closed (Some w) ≡ true) (v : ℕ) (on : Contains (path h w.base) v)
+    (free : first_interfering meta h.versions (package_at h.versions v) (path_after h v w.base) ≡ None)
+    (apart : have_pair meta (package_at h.versions v) w.operations ≡ false) where
   abbrev taken : List Operation
   taken = package_at h.versions v
 
@@ -123,16 +130,19 @@ module _ (meta : Meta) (sound : Sound meta) (h : History) (whole : IsWhole h) (r
   none = pairs_both meta taken since w.operations (versions_apart meta h.versions taken (path_after h v w.base) free) (no_pair_of meta taken w.operations apart)
 
   goes : path h w.base ≡ first.before ++ (v ∷ path_after h v w.base)
-  goes = path_splits h whole v w.base r.stands.base on ∙ ap (λ us. us ++ path_after h v w.base) first.is ∙ append_assoc first.before (v ∷ []) (path_after h v w.base)
+  goes = path_splits h whole v w.base r.stands.base on ∙ ap (λ us. us ++ path_after h v w.base) first.is
+      ∙ append_assoc first.before (v ∷ []) (path_after h v w.base)
 
   all_operations : operations_to h w.base ++ w.operations ≡ operations_of h.versions first.before ++ (taken ++ (since ++ w.operations))
   all_operations =
-      ap (λ (os : List Operation). os ++ w.operations) (ap (operations_of h.versions) goes ∙ operations_append h.versions first.before (v ∷ path_after h v w.base))
+      ap (λ (os : List Operation). os ++ w.operations)
+      (ap (operations_of h.versions) goes ∙ operations_append h.versions first.before (v ∷ path_after h v w.base))
       ∙ append_assoc (operations_of h.versions first.before) (taken ++ since) w.operations
       ∙ ap (λ (os : List Operation). operations_of h.versions first.before ++ os) (append_assoc taken since w.operations)
 
   -- what the operations without the package lead to, its reversal leads to from the working model
-  taken_out_leads : (n : models.State) × Leads meta (model_of meta h w) (rev_package taken) n × Leads meta nothing (operations_of h.versions first.before ++ (since ++ w.operations)) n
+  taken_out_leads : (n : models.State) × Leads meta (model_of meta h w) (rev_package taken) n
+      × Leads meta nothing (operations_of h.versions first.before ++ (since ++ w.operations)) n
   taken_out_leads =
       revert_takes_out meta sound nothing (model_of meta h w) (starts_good meta) (operations_of h.versions first.before) taken (since ++ w.operations) none
       (subst (λ (os : List Operation). Leads meta nothing os (model_of meta h w)) all_operations
@@ -142,7 +152,8 @@ module _ (meta : Meta) (sound : Sound meta) (h : History) (whole : IsWhole h) (r
   without_operations : operations_of h.versions (path_without h v w.base) ++ w.operations ≡ operations_of h.versions first.before ++ (since ++ w.operations)
   without_operations =
       ap (λ (os : List Operation). os ++ w.operations)
-      (ap (operations_of h.versions) (without_is h whole v w.base r.stands.base on first.before first.is first.below) ∙ operations_append h.versions first.before (path_after h v w.base))
+      (ap (operations_of h.versions) (without_is h whole v w.base r.stands.base on first.before first.is first.below)
+      ∙ operations_append h.versions first.before (path_after h v w.base))
       ∙ append_assoc (operations_of h.versions first.before) since w.operations
 
   -- the reversal leads from the working model to the model without the package
@@ -168,19 +179,25 @@ module _ (meta : Meta) (sound : Sound meta) (h : History) (whole : IsWhole h) (r
   -- so the reversal can be recorded, and needs no test
   pub revert_follows : (o : Operation) (os : List Operation) → rev_package (package_at h.versions v) ≡ o ∷ os → can_follow meta h (Some w) (o ∷ os) ≡ true
   revert_follows o os is =
-      let leads : fold_package meta (model_of meta h w) (o ∷ os) ≡ Some taken_out_is.model = subst (λ (l : List Operation). fold_package meta (model_of meta h w) l ≡ Some taken_out_is.model) is taken_out_is.back in
+      let leads : fold_package meta (model_of meta h w) (o ∷ os) ≡ Some taken_out_is.model =
+      subst (λ (l : List Operation). fold_package meta (model_of meta h w) l ≡ Some taken_out_is.model) is taken_out_is.back in
       (λ i. takes_any w.composite refl (o ∷ os) i && is_some (leads i))
 
 -- further operations lead on from the working model
-pub more_model : (meta : Meta) (h : History) (more : List Operation) (w : Workspace) (n : models.State) → Runs meta h w → Leads meta (model_of meta h w) more n → (c : Option Open) → w.composite ≡ c → model_of meta h (added more c w) ≡ n
+pub more_model : (meta : Meta) (h : History) (more : List Operation) (w : Workspace) (n : models.State) → Runs meta h w
+    → Leads meta (model_of meta h w) more n → (c : Option Open) → w.composite ≡ c → model_of meta h (added more c w) ≡ n
 more_model meta h more w n r leads None is =
-    let known : fold meta (state_of meta h w.base) (recorded_steps w) ≡ Some (model_of meta h w) = workspace_folded meta h w r ∙ ap Some (sym (workspace_model meta h w r)) in
+    let known : fold meta (state_of meta h w.base) (recorded_steps w) ≡ Some (model_of meta h w) =
+    workspace_folded meta h w r ∙ ap Some (sym (workspace_model meta h w r)) in
     ap (λ (o : Option models.State). unwrap_or o nothing)
-    (ap (λ (l : List Step). fold meta (state_of meta h w.base) l) (more_steps more None w is) ∙ fold_append meta (state_of meta h w.base) (model_of meta h w) (recorded_steps w) (steps_all more) known ∙ leads)
+    (ap (λ (l : List Step). fold meta (state_of meta h w.base) l) (more_steps more None w is)
+    ∙ fold_append meta (state_of meta h w.base) (model_of meta h w) (recorded_steps w) (steps_all more) known ∙ leads)
 more_model meta h more w n r leads (Some c) is =
-    let known : fold meta (state_of meta h w.base) (recorded_steps w) ≡ Some (model_of meta h w) = workspace_folded meta h w r ∙ ap Some (sym (workspace_model meta h w r)) in
+    let known : fold meta (state_of meta h w.base) (recorded_steps w) ≡ Some (model_of meta h w) =
+    workspace_folded meta h w r ∙ ap Some (sym (workspace_model meta h w r)) in
     ap (λ (o : Option models.State). unwrap_or o nothing)
-    (ap (λ (l : List Step). fold meta (state_of meta h w.base) l) (more_steps more (Some c) w is) ∙ fold_append meta (state_of meta h w.base) (model_of meta h w) (recorded_steps w) (steps_all more) known ∙ leads)
+    (ap (λ (l : List Step). fold meta (state_of meta h w.base) l) (more_steps more (Some c) w is)
+    ∙ fold_append meta (state_of meta h w.base) (model_of meta h w) (recorded_steps w) (steps_all more) known ∙ leads)
 
 -- ---- the decision
 -- an event for which there is room is the one that was asked for
@@ -188,7 +205,9 @@ room_event : (s : State) (lines : List (List ℕ)) (words : List ℕ) (event mad
 unfolding with_room
 room_event s lines words event made = by (nat_le most_events s.events) (is_event event) (fit_of s.end (length (event_encoding event)))
   where
-    by : (full formed : Bool) (fit : Fit) → (cond full (refused refusals.HistoryFull) (cond formed (by_fit fit lines words event) (refused refusals.TooLarge))).event ≡ Some made → event ≡ made
+    by : (full formed : Bool) (fit : Fit)
+        → (cond full (refused refusals.HistoryFull) (cond formed (by_fit fit lines words event) (refused refusals.TooLarge))).event ≡ Some made
+        → event ≡ made
     by true formed fit e = cc
     by false false fit e = cc
     by false true fits.Yes e = cc
@@ -214,27 +233,35 @@ module _ (s : State) (meta : Meta) (ws v : ℕ) (w : Workspace) (event : Event) 
   by_operations [] e = cc
   by_operations (o ∷ os) e = room_event s [] [] (Edit ws (o ∷ os)) event e
 
-  by_pair : (b : Bool) → (cond b (refused (refusals.Interferes None)) (with_operations s ws (rev_package operations))).event ≡ Some event → (b ≡ false) × (Edit ws (rev_package operations) ≡ event)
+  by_pair : (b : Bool) → (cond b (refused (refusals.Interferes None)) (with_operations s ws (rev_package operations))).event ≡ Some event
+      → (b ≡ false) × (Edit ws (rev_package operations) ≡ event)
   by_pair true e = cc
   by_pair false e = (refl, by_operations (rev_package operations) e)
 
-  by_first : (o : Option ℕ) → (taken_out s meta ws w operations o).event ≡ Some event → (o ≡ None) × (have_pair meta operations w.operations ≡ false) × (Edit ws (rev_package operations) ≡ event)
+  by_first : (o : Option ℕ) → (taken_out s meta ws w operations o).event ≡ Some event
+      → (o ≡ None) × (have_pair meta operations w.operations ≡ false) × (Edit ws (rev_package operations) ≡ event)
   by_first (Some u) e = cc
   by_first None e = let p = by_pair (have_pair meta operations w.operations) e in (refl, p.0, p.1)
 
-  by_among : (b : Bool) → (cond b (taken_out s meta ws w operations found_first) (refused refusals.NotOnPath)).event ≡ Some event → (b ≡ true) × (found_first ≡ None) × (have_pair meta operations w.operations ≡ false) × (Edit ws (rev_package operations) ≡ event)
+  by_among : (b : Bool) → (cond b (taken_out s meta ws w operations found_first) (refused refusals.NotOnPath)).event ≡ Some event
+      → (b ≡ true) × (found_first ≡ None) × (have_pair meta operations w.operations ≡ false) × (Edit ws (rev_package operations) ≡ event)
   by_among true e = let p = by_first found_first e in (refl, p.0, p.1, p.2)
   by_among false e = cc
 
-  by_version : (o : Option Version) → (revert_found s meta ws w (on_its_branch v o)).event ≡ Some event → (is_among (path s.history w.base) v ≡ true) × (found_first ≡ None) × (have_pair meta operations w.operations ≡ false) × (Edit ws (rev_package operations) ≡ event)
+  by_version : (o : Option Version) → (revert_found s meta ws w (on_its_branch v o)).event ≡ Some event
+      → (is_among (path s.history w.base) v ≡ true) × (found_first ≡ None) × (have_pair meta operations w.operations ≡ false)
+      × (Edit ws (rev_package operations) ≡ event)
   by_version None e = cc
   by_version (Some version) e = by_among (is_among (path s.history w.base) v) e
 
-  by_open : (b : Bool) → is_open (Some w) ≡ b → (cond b (refused refusals.CompositeOpen) (revert_found s meta ws w (found_by_number s.history v))).event ≡ Some event → Accepted s meta ws v w event
+  by_open : (b : Bool) → is_open (Some w) ≡ b
+      → (cond b (refused refusals.CompositeOpen) (revert_found s meta ws w (found_by_number s.history v))).event ≡ Some event
+      → Accepted s meta ws v w event
   by_open true is e = cc
   by_open false is e = let p = by_version (slice_get s.history.versions v) e in record { shut = is; on = p.0; free = p.1; apart = p.2; is = p.3 }
 
-  accepted_so : s.meta ≡ Some meta → workspace_of s ws ≡ Some w → (block : Option (List ℕ)) → (decide_command s block (commands.Revert ws v)).event ≡ Some event → Accepted s meta ws v w event
+  accepted_so : s.meta ≡ Some meta → workspace_of s ws ≡ Some w → (block : Option (List ℕ))
+      → (decide_command s block (commands.Revert ws v)).event ≡ Some event → Accepted s meta ws v w event
   unfolding decide_command decide_revert
   accepted_so begun there block e =
       by_open (is_open (Some w)) refl
@@ -242,11 +269,13 @@ module _ (s : State) (meta : Meta) (ws v : ℕ) (w : Workspace) (event : Event) 
       (subst (λ (m : Option Meta). (decide_with s m block (commands.Revert ws v)).event ≡ Some event) begun e))
 
 -- ---- the law
-edited_after : (s : State) (meta : Meta) (ws : ℕ) (more : List Operation) (before after : Workspace) → Changes s meta ws (Edit ws more) before after → with_more more before ≡ after
+edited_after : (s : State) (meta : Meta) (ws : ℕ) (more : List Operation) (before after : Workspace) → Changes s meta ws (Edit ws more) before after
+    → with_more more before ≡ after
 unfolding play
 edited_after s meta ws more before after c = changed_is s ws (with_more more) before after c.there (made_of s meta ws (Edit ws more) before after c)
 
-edit_leads : (s : State) (meta : Meta) (ws : ℕ) (more : List Operation) (before after : Workspace) (n : models.State) → Changes s meta ws (Edit ws more) before after → Leads meta (model_of meta s.history before) more n
+edit_leads : (s : State) (meta : Meta) (ws : ℕ) (more : List Operation) (before after : Workspace) (n : models.State)
+    → Changes s meta ws (Edit ws more) before after → Leads meta (model_of meta s.history before) more n
     → model_of meta (play s (Edit ws more)).history after ≡ n
 unfolding play
 edit_leads s meta ws more before after n c leads =
@@ -259,7 +288,9 @@ reverts_take_out s meta ws v block event before after decided c =
     let k : Orderly meta s = orderly_of s meta ws event before after c in
     let q : InOrder meta s.history before = in_order_of s meta ws event before after c in
     let closed : is_closed (Some before) ≡ true = ap not a.shut in
-    let out = taken_out_is meta k.metamodel.sound s.history k.whole k.versions before q closed v (of_among (path s.history before.base) v a.on) a.free a.apart in
+    let out = taken_out_is meta k.metamodel.sound s.history k.whole k.versions before q closed v
+    (of_among (path s.history before.base) v a.on) a.free a.apart in
     out.left
     ∙ ap Some (sym (subst (λ (e : Event). Changes s meta ws e before after → model_of meta (play s e).history after ≡ out.model) a.is
-    (λ (d : Changes s meta ws (Edit ws (rev_package (package_at s.history.versions v))) before after). edit_leads s meta ws (rev_package (package_at s.history.versions v)) before after out.model d out.back) c))
+    (λ (d : Changes s meta ws (Edit ws (rev_package (package_at s.history.versions v))) before after). edit_leads s meta ws
+    (rev_package (package_at s.history.versions v)) before after out.model d out.back) c))

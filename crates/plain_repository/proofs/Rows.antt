@@ -91,7 +91,8 @@ message_is : is_utf8 (codes "k") ≡ true
 message_is = is_utf8-from_IsUtf8 (codes "k") (IsUtf8-from_ascii (codes "k") (IsAscii-cons 107 [] (omega arith) IsAscii-nil))
 
 third : (meta : Meta) → said (four meta) (commands.Commit 2 (Some (codes "k"))) ≡ last.Ok (codes "3")
-unfolding decide_command play decide_commit with_room is_event event_encoding u32_encoding u64_encoding text_encoding package_encoding operation_encoding step_encoding digits encode
+unfolding decide_command play decide_commit with_room is_event event_encoding u32_encoding u64_encoding text_encoding package_encoding
+    operation_encoding step_encoding digits encode
 third meta = rw (said, message_is) refl
 
 -- paths and heads
@@ -119,11 +120,13 @@ unfolding decide_command play decide_commit
 gone meta = refl
 
 checked_out : (meta : Meta) → said (five meta) (commands.Checkout (specs.Tag (codes "t"))) ≡ last.Ok (codes "3 1 trunk")
-unfolding decide_command play decide_checkout with_room is_event event_encoding u32_encoding u64_encoding text_encoding package_encoding operation_encoding step_encoding digits
+unfolding decide_command play decide_checkout with_room is_event event_encoding u32_encoding u64_encoding text_encoding package_encoding
+    operation_encoding step_encoding digits
 checked_out meta = refl
 
 on_dev : (meta : Meta) → said (five meta) (commands.Checkout (specs.Branch (codes "dev"))) ≡ last.Ok (codes "3 3 dev")
-unfolding decide_command play decide_checkout with_room is_event event_encoding u32_encoding u64_encoding text_encoding package_encoding operation_encoding step_encoding digits
+unfolding decide_command play decide_checkout with_room is_event event_encoding u32_encoding u64_encoding text_encoding package_encoding
+    operation_encoding step_encoding digits
 on_dev meta = refl
 
 -- a version is signed once the store is upgraded, and not before
@@ -146,5 +149,6 @@ nothing_is : is_utf8 [] ≡ true
 nothing_is = is_utf8-from_IsUtf8 [] (IsUtf8-from_ascii [] IsAscii-nil)
 
 signed : (meta : Meta) → said (upgraded meta) (commands.Signed 2 (codes "ann") 5 None) ≡ last.Ok (codes "3")
-unfolding decide_command play decide_signed with_room is_event event_encoding u32_encoding u64_encoding text_encoding package_encoding operation_encoding step_encoding digits encode
+unfolding decide_command play decide_signed with_room is_event event_encoding u32_encoding u64_encoding text_encoding package_encoding
+    operation_encoding step_encoding digits encode
 signed meta = rw (said, author_is, nothing_is) refl

@@ -1,5 +1,6 @@
 -- Runs of steps: what is recorded in a workspace, after the operations up to its base.
-use Rattle.std.proofs.Common.{◌≡◌, ℕ, ◌-◌, List, [], ◌∷◌, ◌++◌, true, false, length, take, drop, take-append-drop, Option, None, Some, is_some, refl, sym, ◌∙◌, ap, subst, append-nil, append_assoc}
+use Rattle.std.proofs.Common.{◌≡◌, ℕ, ◌-◌, List, [], ◌∷◌, ◌++◌, true, false, length, take, drop, take-append-drop, Option, None, Some, is_some, refl}
+use Rattle.std.proofs.Common.{sym, ◌∙◌, ap, subst, append-nil, append_assoc}
 use Rattle.std.specs.Prelude.{not, unwrap_or}
 use Rattle.std.specs.List.{AllByRecursion}
 use Rattle.std.proofs.lemmas.List.Elements.{recursion_from_All}
@@ -32,7 +33,8 @@ front_run meta ss ts r =
     let way : ByWay meta nothing r.model ss ts = by_way meta nothing r.model ss ts r.run in
     record { model = way.way; run = way.first; spelled = front IsStep ss ts r.spelled }
 
-pub longer_run : (meta : Meta) (ss ts : List Step) (r : IsRun meta ss) → is_some (fold meta r.model ts) ≡ true → AllByRecursion IsStep ts → IsRun meta (ss ++ ts)
+pub longer_run : (meta : Meta) (ss ts : List Step) (r : IsRun meta ss) → is_some (fold meta r.model ts) ≡ true → AllByRecursion IsStep ts
+    → IsRun meta (ss ++ ts)
 longer_run meta ss ts r taken spelled = by (fold meta r.model ts) refl taken
   where
     by : (o : Option models.State) → fold meta r.model ts ≡ o → is_some o ≡ true → IsRun meta (ss ++ ts)
@@ -70,13 +72,17 @@ pub untouched_runs : (meta : Meta) (h : History) (branch base : ℕ) → RunsTo 
 untouched_runs meta h branch base = same_run meta (steps_to h base ++ []) (steps_to h base) (append-nil (steps_to h base))
 
 -- the steps of further operations come last
-pub more_runs : (meta : Meta) (h : History) (more : List Operation) → AllByRecursion IsOperation more → (w : Workspace) → can_follow meta h (Some w) more ≡ true → Runs meta h w → (c : Option Open) → w.composite ≡ c → IsRun meta (steps_to h w.base ++ recorded_steps (added more c w))
+pub more_runs : (meta : Meta) (h : History) (more : List Operation) → AllByRecursion IsOperation more → (w : Workspace)
+    → can_follow meta h (Some w) more ≡ true → Runs meta h w → (c : Option Open) → w.composite ≡ c
+    → IsRun meta (steps_to h w.base ++ recorded_steps (added more c w))
 more_runs meta h [] spelled w can r c is = absurd cc
 more_runs meta h (o ∷ os) spelled w can r c is =
     same_run meta (steps_to h w.base ++ recorded_steps (added (o ∷ os) c w)) ((steps_to h w.base ++ recorded_steps w) ++ steps_all (o ∷ os))
-    (ap (λ (l : List Step). steps_to h w.base ++ l) (more_steps (o ∷ os) c w is) ∙ sym (append_assoc (steps_to h w.base) (recorded_steps w) (steps_all (o ∷ os))))
+    (ap (λ (l : List Step). steps_to h w.base ++ l) (more_steps (o ∷ os) c w is)
+    ∙ sym (append_assoc (steps_to h w.base) (recorded_steps w) (steps_all (o ∷ os))))
     (longer_run meta (steps_to h w.base ++ recorded_steps w) (steps_all (o ∷ os)) r
-    (subst (λ (m : models.State). is_some (fold_package meta m (o ∷ os)) ≡ true) (workspace_model meta h w r) (and_right (takes w.composite (o ∷ os)) (is_some (fold_package meta (model_of meta h w) (o ∷ os))) can))
+    (subst (λ (m : models.State). is_some (fold_package meta m (o ∷ os)) ≡ true) (workspace_model meta h w r)
+    (and_right (takes w.composite (o ∷ os)) (is_some (fold_package meta (model_of meta h w) (o ∷ os))) can))
     (operations_spelled (o ∷ os) spelled))
 
 pub not_open : (c : Option Open) → not (is_some c) ≡ true → is_some c ≡ false
@@ -94,9 +100,11 @@ closed_runs meta h w =
     (ap (λ (l : List Step). steps_to h w.base ++ l) (closed_steps w.operations w.composite))
 
 -- the steps of the first operations come first
-first_steps : (os : List Operation) (n : ℕ) (c : Option Open) → is_some c ≡ false → (steps_all (take n os) ++ open_steps c) ++ steps_all (drop n os) ≡ steps_all os ++ open_steps c
+first_steps : (os : List Operation) (n : ℕ) (c : Option Open) → is_some c ≡ false
+    → (steps_all (take n os) ++ open_steps c) ++ steps_all (drop n os) ≡ steps_all os ++ open_steps c
 first_steps os n None closed =
-    ap (λ (l : List Step). l ++ steps_all (drop n os)) (append-nil (steps_all (take n os))) ∙ sym (steps_append (take n os) (drop n os)) ∙ ap steps_all (take-append-drop n os) ∙ sym (append-nil (steps_all os))
+    ap (λ (l : List Step). l ++ steps_all (drop n os)) (append-nil (steps_all (take n os))) ∙ sym (steps_append (take n os) (drop n os))
+    ∙ ap steps_all (take-append-drop n os) ∙ sym (append-nil (steps_all os))
 first_steps os n (Some c) closed = absurd cc
 
 pub last_runs : (meta : Meta) (h : History) (w : Workspace) → is_closed (Some w) ≡ true → Runs meta h w → Runs meta h (without_last w)
@@ -106,7 +114,8 @@ last_runs meta h w closed r =
     let left : List Step = recorded_steps (without_last w) in
     front_run meta (steps_to h w.base ++ left) gone
     (same_run meta ((steps_to h w.base ++ left) ++ gone) (steps_to h w.base ++ recorded_steps w)
-    (append_assoc (steps_to h w.base) left gone ∙ ap (λ (l : List Step). steps_to h w.base ++ l) (first_steps w.operations n w.composite (not_open w.composite closed))) r)
+    (append_assoc (steps_to h w.base) left gone
+    ∙ ap (λ (l : List Step). steps_to h w.base ++ l) (first_steps w.operations n w.composite (not_open w.composite closed))) r)
 
 -- where no composite is open, the steps are those of the operations
 pub closed_steps_are : (w : Workspace) (c : Option Open) → w.composite ≡ c → is_closed (Some w) ≡ true → recorded_steps w ≡ steps_all w.operations

@@ -32,7 +32,9 @@ module _ (s : State) (meta : Meta) (begun : s.meta ≡ Some meta) (block : Optio
   pub shown_so : shown_as s block ws ≡ views meta (model_of meta s.history w) w.operations w.composite
   unfolding decide_command decide_show decide_changes decide_validate
   shown_so =
-      ap (λ (m : Option Meta). decide_with s m block (commands.Show ws) ∷ decide_with s m block (commands.Changes ws) ∷ decide_with s m block (commands.Validate ws) ∷ []) begun
+      ap (λ (m : Option Meta).
+      decide_with s m block (commands.Show ws) ∷ decide_with s m block (commands.Changes ws) ∷ decide_with s m block (commands.Validate ws) ∷ [])
+      begun
       ∙ ap (λ (o : Option Workspace). shown meta s.history o ∷ changes_of meta o ∷ validated meta s.history o ∷ []) there
 
 -- models of the same steps from the same state
@@ -49,7 +51,8 @@ pub shown_apart : ShownApart
 unfolding play playable
 shown_apart s meta has ws w there e could apart stays block =
     let t : IsThere s meta w = record { in_state = has; ws = ws; there = there } in
-    let could_with : IsTrue (playable_with s (Some meta) e) = subst (λ (m : Option Meta). IsTrue (playable_with s m e)) has.begun (and_right _ (playable_with s s.meta e) could) in
+    let could_with : IsTrue (playable_with s (Some meta) e) =
+    subst (λ (m : Option Meta). IsTrue (playable_with s m e)) has.begun (and_right _ (playable_with s s.meta e) could) in
     let leaves = effect_leaves meta s w (in_order s meta w t).stands.base e could_with in
     shown_by_own (play s e) s meta stays has.begun ws ws w w (workspaces_stay_apart s ws w there e apart) there
     (record {

@@ -1,5 +1,6 @@
 -- Which versions are signed: those that events behind Upgrade make.
-use Rattle.std.proofs.Common.{◌≡◌, ℕ, ◌&&◌, ◌||◌, nat_lt, List, [], ◌∷◌, ◌++◌, Bool, true, false, not, length, Option, None, Some, is_some, refl, sym, ◌∙◌, ap, subst, append_assoc, append-nil, arith}
+use Rattle.std.proofs.Common.{◌≡◌, ℕ, ◌&&◌, ◌||◌, nat_lt, List, [], ◌∷◌, ◌++◌, Bool, true, false, not, length, Option, None, Some, is_some, refl, sym}
+use Rattle.std.proofs.Common.{◌∙◌, ap, subst, append_assoc, append-nil, arith}
 use Rattle.std.specs.Prelude.{IsTrue, All, option_map}
 use Rattle.std.specs.List.{list_any}
 use Rattle.std.proofs.lemmas.List.Elements.{All-append, All-from_recursion}
@@ -8,19 +9,22 @@ use Rattle.ecore_meta.specs.Meta.{Meta}
 use Rattle.history_tree.specs.declared.version.Version.{Version}
 use Rattle.history_tree.specs.History.{History, first_history, no_history}
 use Rattle.op_form.specs.declared.event.Event.{Event}
-use Rattle.op_form.specs.declared.event.Event.TheVariants.{Init, Checkout, Edit, Begin, End, Undo, Discard, Tidy, Commit, Branch, Tag, Update, Merge, Drop, Evolve, Upgrade, Signed}
+use Rattle.op_form.specs.declared.event.Event.TheVariants.{Init, Checkout, Edit, Begin, End, Undo, Discard, Tidy, Commit, Branch, Tag, Update, Merge}
+use Rattle.op_form.specs.declared.event.Event.TheVariants.{Drop, Evolve, Upgrade, Signed}
 use Rattle.plain_repository.specs.State.{State, Workspace, empty, workspace_of}
 use Rattle.plain_repository.specs.Answers.{most_events, fits_record}
 use Rattle.history_tree.specs.declared.version.Signature.{Signature}
 use Rattle.plain_repository.specs.Commits.{version_of, with_commit, with_new_branch}
 use Rattle.plain_repository.specs.Events.{effect, play, playable, playable_with, suits, are_playable}
 use Rattle.plain_repository.specs.Orderly.{AllOrderly, IsOrderly}
-use Rattle.plain_repository.specs.Laws.{IsSigned, IsUnsigned, AddsSuch, is_upgrade, UpgradesStay, NewVersionsAreSigned, AreSignedSince, SignedSinceUpgrade, is_of_signing, is_asked, are_asked, OldStoresGoOn, OldStoresReadOn}
+use Rattle.plain_repository.specs.Laws.{IsSigned, IsUnsigned, AddsSuch, is_upgrade, UpgradesStay, NewVersionsAreSigned, AreSignedSince}
+use Rattle.plain_repository.specs.Laws.{SignedSinceUpgrade, is_of_signing, is_asked, are_asked, OldStoresGoOn, OldStoresReadOn}
 use Rattle.plain_repository.proofs.Encodings.{and_left, and_right, not_so, suiting}
 use Rattle.plain_repository.proofs.Kept.{empty_kept, play_keeps}
 
 -- ---- whether the store is upgraded
-commit_upgraded : (s : State) (k : ℕ) (signature : Option Signature) (message : List ℕ) (o : Option Workspace) → (with_commit k signature message o s).upgraded ≡ s.upgraded
+commit_upgraded : (s : State) (k : ℕ) (signature : Option Signature) (message : List ℕ) (o : Option Workspace)
+    → (with_commit k signature message o s).upgraded ≡ s.upgraded
 commit_upgraded s k signature message None = refl
 commit_upgraded s k signature message (Some w) = refl
 
@@ -79,7 +83,8 @@ module _ {Such : Version → Type 0} where
     such = All-append Such first.more second.more first.such second.such;
   }
 
-  commit_adds : (s : State) (k : ℕ) (signature : Option Signature) (message : List ℕ) → ((w : Workspace) → Such (version_of w signature message)) → (o : Option Workspace) → AddsSuch Such s.history (with_commit k signature message o s).history
+  commit_adds : (s : State) (k : ℕ) (signature : Option Signature) (message : List ℕ) → ((w : Workspace) → Such (version_of w signature message))
+      → (o : Option Workspace) → AddsSuch Such s.history (with_commit k signature message o s).history
   commit_adds s k signature message such None = adds_none s.history
   commit_adds s k signature message such (Some w) = record {
     more = version_of w signature message ∷ [];
@@ -94,7 +99,8 @@ module _ {Such : Version → Type 0} where
   -- where there is a metamodel
   effect_adds : (s : State) (meta : Meta) (e : Event) → IsTrue (playable_with s (Some meta) e)
       → ((k : ℕ) (message : List ℕ) → e ≡ Commit k message → (w : Workspace) → Such (version_of w None message))
-      → ((k : ℕ) (author : List ℕ) (moment : ℕ) (message : List ℕ) → e ≡ Signed k author moment message → (w : Workspace) → Such (version_of w (Some (record { author = author; moment = moment })) message))
+      → ((k : ℕ) (author : List ℕ) (moment : ℕ) (message : List ℕ) → e ≡ Signed k author moment message → (w : Workspace)
+      → Such (version_of w (Some (record { author = author; moment = moment })) message))
       → AddsSuch Such s.history (effect s e).history
   effect_adds s meta (Init text) could plain signed = absurd cc
   effect_adds s meta (Checkout version branch) could plain signed = adds_none s.history
@@ -106,7 +112,8 @@ module _ {Such : Version → Type 0} where
   effect_adds s meta (Tidy k) could plain signed = adds_none s.history
   effect_adds s meta (Commit k message) could plain signed = commit_adds s k None message (plain k message refl) (workspace_of s k)
   effect_adds s meta (Branch k name) could plain signed = branch_adds s k name (workspace_of s k)
-  effect_adds s meta (Tag name version) could plain signed = record { more = []; is = sym (append-nil s.history.versions); such = All-from_recursion Such [] tt }
+  effect_adds s meta (Tag name version) could plain signed =
+      record { more = []; is = sym (append-nil s.history.versions); such = All-from_recursion Such [] tt }
   effect_adds s meta (Update k letters) could plain signed = adds_none s.history
   effect_adds s meta (Merge k branch letters) could plain signed = adds_none s.history
   effect_adds s meta (Drop k) could plain signed = adds_none s.history
@@ -116,8 +123,10 @@ module _ {Such : Version → Type 0} where
       commit_adds s k (Some (record { author = author; moment = moment })) message (signed k author moment message refl) (workspace_of s k)
 
   -- before there is one, Init alone adds a version: the first
-  first_adds : (s : State) (e : Event) → s.history ≡ no_history → IsTrue (playable_with s None e) → All Such first_history.versions → AddsSuch Such s.history (effect s e).history
-  first_adds s (Init text) none could such = record { more = first_history.versions; is = ap (λ (h : History). h.versions ++ first_history.versions) (sym none); such = such }
+  first_adds : (s : State) (e : Event) → s.history ≡ no_history → IsTrue (playable_with s None e) → All Such first_history.versions
+      → AddsSuch Such s.history (effect s e).history
+  first_adds s (Init text) none could such =
+      record { more = first_history.versions; is = ap (λ (h : History). h.versions ++ first_history.versions) (sym none); such = such }
   first_adds s (Checkout version branch) none could such = absurd cc
   first_adds s (Edit k operations) none could such = absurd cc
   first_adds s (Begin k name) none could such = absurd cc
@@ -146,7 +155,8 @@ not_both false first second = cc
 no_commit : (s : State) (e : Event) (k : ℕ) (message : List ℕ) → s.upgraded ≡ true → IsTrue (suits s.upgraded e) → e ≡ Commit k message → ⊥
 no_commit s e k message is suited same = not_both s.upgraded is (not_so s.upgraded (subst (λ (e : Event). IsTrue (suits s.upgraded e)) same suited))
 
-no_signed : (s : State) (e : Event) (k : ℕ) (author : List ℕ) (moment : ℕ) (message : List ℕ) → s.upgraded ≡ false → IsTrue (suits s.upgraded e) → e ≡ Signed k author moment message → ⊥
+no_signed : (s : State) (e : Event) (k : ℕ) (author : List ℕ) (moment : ℕ) (message : List ℕ) → s.upgraded ≡ false → IsTrue (suits s.upgraded e)
+    → e ≡ Signed k author moment message → ⊥
 no_signed s e k author moment message is suited same = not_both s.upgraded (subst (λ (e : Event). IsTrue (suits s.upgraded e)) same suited) is
 
 module _ (s : State) (e : Event) (could : IsTrue (playable s e)) where
@@ -156,11 +166,15 @@ module _ (s : State) (e : Event) (could : IsTrue (playable s e)) where
 
   signed_in : (m : Option Meta) → AllOrderly m s → IsTrue (playable_with s m e) → s.upgraded ≡ true → AddsSuch IsSigned s.history (effect s e).history
   signed_in None order asked is = absurd (not_both s.upgraded is order.2)
-  signed_in (Some meta) order asked is = effect_adds s meta e asked (λ k message same. absurd (no_commit s e k message is (suiting s e could) same)) (λ k author moment message same w. (refl, refl))
+  signed_in (Some meta) order asked is =
+      effect_adds s meta e asked (λ k message same. absurd (no_commit s e k message is (suiting s e could) same))
+      (λ k author moment message same w. (refl, refl))
 
   unsigned_in : (m : Option Meta) → AllOrderly m s → IsTrue (playable_with s m e) → s.upgraded ≡ false → AddsSuch IsUnsigned s.history (effect s e).history
   unsigned_in None order asked is = first_adds s e order.1 asked first_unsigned
-  unsigned_in (Some meta) order asked is = effect_adds s meta e asked (λ k message same w. (refl, refl)) (λ k author moment message same. absurd (no_signed s e k author moment message is (suiting s e could) same))
+  unsigned_in (Some meta) order asked is =
+      effect_adds s meta e asked (λ k message same w. (refl, refl))
+      (λ k author moment message same. absurd (no_signed s e k author moment message is (suiting s e could) same))
 
   pub adds_signed : IsOrderly s → s.upgraded ≡ true → AddsSuch IsSigned s.history (play s e).history
   unfolding play
@@ -171,7 +185,8 @@ module _ (s : State) (e : Event) (could : IsTrue (playable s e)) where
   adds_unsigned order is = unsigned_in s.meta order asked_of is
 
 pub new_versions_are_signed : NewVersionsAreSigned
-new_versions_are_signed = record { signed = λ s order is e could. adds_signed s e could order is; unsigned = λ s order is e could. adds_unsigned s e could order is }
+new_versions_are_signed =
+    record { signed = λ s order is e could. adds_signed s e could order is; unsigned = λ s order is e could. adds_unsigned s e could order is }
 
 -- ---- the versions that events add
 first_of : (s : State) (e : Event) (es : List Event) → IsTrue (are_playable s (e ∷ es)) → IsTrue (playable s e)
@@ -181,7 +196,8 @@ rest_of : (s : State) (e : Event) (es : List Event) → IsTrue (are_playable s (
 rest_of s e es could = and_right (playable s e) (are_playable (play s e) es) could
 
 -- behind Upgrade
-all_signed : (s : State) (es : List Event) → IsOrderly s → IsTrue (are_playable s es) → s.upgraded ≡ true → AddsSuch IsSigned s.history (played play s es).history
+all_signed : (s : State) (es : List Event) → IsOrderly s → IsTrue (are_playable s es) → s.upgraded ≡ true
+    → AddsSuch IsSigned s.history (played play s es).history
 all_signed s [] order could is = adds_none s.history
 all_signed s (e ∷ es) order could is =
     adds_more s.history (play s e).history (played play (play s e) es).history
@@ -198,7 +214,11 @@ all_unsigned s [] order could is = record { was = is; adds = adds_none s.history
 all_unsigned s (e ∷ es) order could is =
     let rest = all_unsigned (play s e) es (play_keeps s e (first_of s e es could) order) (rest_of s e es could) is in
     let was = was_not s e rest.was in
-    record { was = was; adds = adds_more s.history (play s e).history (played play (play s e) es).history (adds_unsigned s e (first_of s e es could) order was) rest.adds }
+    record {
+      was = was;
+      adds =
+          adds_more s.history (play s e).history (played play (play s e) es).history (adds_unsigned s e (first_of s e es could) order was) rest.adds;
+    }
 
 -- all versions of a store that is not upgraded are unsigned
 all_old : (es : List Event) → IsTrue (are_playable empty es) → (played play empty es).upgraded ≡ false → All IsUnsigned (played play empty es).history.versions
@@ -209,7 +229,9 @@ all_old es could is =
 -- events in two parts
 front_could : (s : State) (xs ys : List Event) → IsTrue (are_playable s (xs ++ ys)) → IsTrue (are_playable s xs)
 front_could s [] ys could = refl
-front_could s (x ∷ xs) ys could = subst (λ (b : Bool). IsTrue (b && are_playable (play s x) xs)) (sym (first_of s x (xs ++ ys) could)) (front_could (play s x) xs ys (rest_of s x (xs ++ ys) could))
+front_could s (x ∷ xs) ys could =
+    subst (λ (b : Bool). IsTrue (b && are_playable (play s x) xs)) (sym (first_of s x (xs ++ ys) could))
+    (front_could (play s x) xs ys (rest_of s x (xs ++ ys) could))
 
 back_could : (s : State) (xs ys : List Event) → IsTrue (are_playable s (xs ++ ys)) → IsTrue (are_playable (played play s xs) ys)
 back_could s [] ys could = could

@@ -88,13 +88,15 @@ dropped_spelled p (o ∷ os) all =
     let rest : AreSpelled (dropped (λ i. p (suc i)) os) = dropped_spelled (λ i. p (suc i)) os all.1 in
     chosen_both AreSpelled (p 0) (o ∷ dropped (λ i. p (suc i)) os) (dropped (λ i. p (suc i)) os) (all.0, rest) rest
 
-pub update_spelled : (theirs mine : List Operation) (bs : List Bucket) (letters : List Side) → AreSpelled theirs → AreSpelled mine → AreSpelled (update_list theirs mine bs letters)
+pub update_spelled : (theirs mine : List Operation) (bs : List Bucket) (letters : List Side) → AreSpelled theirs → AreSpelled mine
+    → AreSpelled (update_list theirs mine bs letters)
 update_spelled theirs mine bs letters first second =
     both IsSpelled (rev_package (dropped (drops_theirs bs letters) theirs)) (kept (drops_mine bs letters) mine)
     (package_back (dropped (drops_theirs bs letters) theirs) (dropped_spelled (drops_theirs bs letters) theirs first))
     (kept_spelled (drops_mine bs letters) mine second)
 
-pub merge_spelled : (theirs mine : List Operation) (bs : List Bucket) (letters : List Side) → AreSpelled theirs → AreSpelled mine → AreSpelled (merge_list theirs mine bs letters)
+pub merge_spelled : (theirs mine : List Operation) (bs : List Bucket) (letters : List Side) → AreSpelled theirs → AreSpelled mine
+    → AreSpelled (merge_list theirs mine bs letters)
 merge_spelled theirs mine bs letters first second =
     both IsSpelled (rev_package (dropped (drops_mine bs letters) mine)) (kept (drops_theirs bs letters) theirs)
     (package_back (dropped (drops_mine bs letters) mine) (dropped_spelled (drops_mine bs letters) mine second))
@@ -147,7 +149,8 @@ given_choice false o is = is
 -- what a rule leaves of two operations is spelled as they are
 met_spelled : (a b : Operation) (left : List Operation) → met a b ≡ Some left → IsSpelled a → IsSpelled b → AreSpelled left
 met_spelled a b left is first second =
-    subst (IsGiven AreSpelled) is (given_choice (takes_back b a) (option_map (λ c. c ∷ []) (joined_op a b)) (given_list (joined_op a b) (joined_op_spelled a b first second)))
+    subst (IsGiven AreSpelled) is
+    (given_choice (takes_back b a) (option_map (λ c. c ∷ []) (joined_op a b)) (given_list (joined_op a b) (joined_op_spelled a b first second)))
 
 rule_spelled : (meta : Meta) (p q : List Operation) → OneRule meta p q → AreSpelled p → AreSpelled q
 rule_spelled meta p q r all =

@@ -18,7 +18,8 @@ use Rattle.plain_repository.proofs.Growth as growth
 use Rattle.plain_repository.proofs.Reached.{kept}
 
 -- the operations up to it stay, and so does what they lead to, with the metamodel that is there then
-pub effect_state_stays : (meta : Meta) (s : State) → Orderly meta s → (e : Event) → IsTrue (playable_with s (Some meta) e) → (v : ℕ) → v < length s.history.versions
+pub effect_state_stays : (meta : Meta) (s : State) → Orderly meta s → (e : Event) → IsTrue (playable_with s (Some meta) e) → (v : ℕ)
+    → v < length s.history.versions
     → state_of (meta_after meta e) (effect s e).history v ≡ state_of meta s.history v
 effect_state_stays meta s order e could v within = by_growth meta
     (λ e. IsTrue (playable_with s (Some meta) e) → state_of (meta_after meta e) (effect s e).history v ≡ state_of meta s.history v)
@@ -29,7 +30,8 @@ effect_state_stays meta s order e could v within = by_growth meta
     e could
 
 -- it is there still
-pub effect_versions_stay : (meta : Meta) (s : State) (e : Event) → IsTrue (playable_with s (Some meta) e) → (v : ℕ) → v < length s.history.versions → v < length (effect s e).history.versions
+pub effect_versions_stay : (meta : Meta) (s : State) (e : Event) → IsTrue (playable_with s (Some meta) e) → (v : ℕ) → v < length s.history.versions
+    → v < length (effect s e).history.versions
 effect_versions_stay meta s e could v within =
     let more = (growth.grown s meta e could).versions in
     let longer = ap length more.1 ∙ length-append s.history.versions more.0 in

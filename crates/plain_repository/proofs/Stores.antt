@@ -1,5 +1,6 @@
 -- A file stands for one list of events at most, and a damaged one for none; it is damaged at one place at most.
-use Rattle.std.proofs.Common.{◌≡◌, ◌≢◌, inl, inr, ℕ, suc, ◌+◌, ◌^◌, ◌<◌, ◌≤◌, List, [], ◌∷◌, ◌++◌, Bool, true, ◌&&◌, length, take, drop, get_or, refl, sym, ◌∙◌, ap, subst, arith, append_assoc, length-append}
+use Rattle.std.proofs.Common.{◌≡◌, ◌≢◌, inl, inr, ℕ, suc, ◌+◌, ◌^◌, ◌<◌, ◌≤◌, List, [], ◌∷◌, ◌++◌, Bool, true, ◌&&◌, length, take, drop, get_or, refl}
+use Rattle.std.proofs.Common.{sym, ◌∙◌, ap, subst, arith, append_assoc, length-append}
 use Rattle.std.specs.Prelude.{IsTrue, map, All}
 use Rattle.std.proofs.lemmas.Bool.{cases_order}
 use Rattle.std.proofs.lemmas.List.{get_or-drop, get_or-take, get_or_append_left, take_at}
@@ -16,8 +17,10 @@ use Rattle.plain_repository.specs.Store.{StandsForEvents, StandsForNoEvents, IsB
 use Rattle.plain_repository.proofs.Encodings.{forms_are, and_left, and_right}
 
 -- a file whose records end at a closed gate stands for their events alone
-pub one_store : (file : List ℕ) (first made : List Event) (end : ℕ) → StandsForEvents file first → EndsAt file (map event_encoding made) end → IsTrue (are_playable empty made) → first ≡ made
-one_store file first made end stood ends could = forms_are empty first made stood.playable could (one_meaning file (map event_encoding first) (map event_encoding made) end stood.forms ends)
+pub one_store : (file : List ℕ) (first made : List Event) (end : ℕ) → StandsForEvents file first → EndsAt file (map event_encoding made) end
+    → IsTrue (are_playable empty made) → first ≡ made
+one_store file first made end stood ends could =
+    forms_are empty first made stood.playable could (one_meaning file (map event_encoding first) (map event_encoding made) end stood.forms ends)
 
 first_of : (forms : List (List ℕ)) (f : List ℕ) → All IsShort (f ∷ forms) → IsShort f
 first_of forms f all = all 0 [] (omega arith)
@@ -26,12 +29,14 @@ rest_of : (forms : List (List ℕ)) (f : List ℕ) → All IsShort (f ∷ forms)
 rest_of forms f all k d low = all (suc k) d (omega arith)
 
 -- records that are read stand first in every reading that comes to a closed gate
-pub first_forms : (a b : List (List ℕ)) (s t : List ℕ) → records a ++ s ≡ records b ++ t → get_or t 0 0 ≢ open_gate → All IsShort a → All IsShort b → (more : List (List ℕ)) × (b ≡ a ++ more)
+pub first_forms : (a b : List (List ℕ)) (s t : List ℕ) → records a ++ s ≡ records b ++ t → get_or t 0 0 ≢ open_gate → All IsShort a → All IsShort b
+    → (more : List (List ℕ)) × (b ≡ a ++ more)
 first_forms [] b s t same closed short_a short_b = (b, refl)
 first_forms (f ∷ a) [] s t same closed short_a short_b = absurd (closed (sym (ap (λ (l : List ℕ). get_or l 0 0) same)))
 first_forms (f ∷ a) (h ∷ b) s t same closed short_a short_b =
     let tails : (four_bytes (length f) ++ f) ++ (records a ++ s) ≡ (four_bytes (length h) ++ h) ++ (records b ++ t) =
-    sym (append_assoc (four_bytes (length f) ++ f) (records a) s) ∙ ap (λ (l : List ℕ). drop 1 l) same ∙ append_assoc (four_bytes (length h) ++ h) (records b) t in
+    sym (append_assoc (four_bytes (length f) ++ f) (records a) s) ∙ ap (λ (l : List ℕ). drop 1 l) same
+    ∙ append_assoc (four_bytes (length h) ++ h) (records b) t in
     let short_f = first_of a f short_a in
     let short_h = first_of b h short_b in
     let one = form_same f h (records a ++ s) (records b ++ t) short_f short_h tails in
@@ -41,11 +46,14 @@ first_forms (f ∷ a) (h ∷ b) s t same closed short_a short_b =
 
 pub reads_first : (file : List ℕ) (a b : List (List ℕ)) (p q : ℕ) → ReadsTo file a p → EndsAt file b q → (more : List (List ℕ)) × (b ≡ a ++ more)
 reads_first file a b p q reads ends = first_forms a b (drop p file) (drop q file) (sym (behind_header file a p reads) ∙ behind_header file b q ends.reads)
-    (λ open_. ends.closed (ap (λ (n : ℕ). get_or file n 0) (let same : q ≡ q + 0 = omega arith in same) ∙ sym (get_or-drop q file 0 0) ∙ open_)) reads.sizes ends.reads.sizes
+    (λ open_. ends.closed (ap (λ (n : ℕ). get_or file n 0) (let same : q ≡ q + 0 = omega arith in same) ∙ sym (get_or-drop q file 0 0) ∙ open_))
+    reads.sizes ends.reads.sizes
 
 -- the events of a list of encodings with one more
-pub split_last : (events : List Event) (forms : List (List ℕ)) (bytes : List ℕ) (more : List (List ℕ)) (s : State) → IsTrue (are_playable s events) → map event_encoding events ≡ (forms ++ bytes ∷ []) ++ more
-    → (first : List Event) × (event : Event) × (map event_encoding first ≡ forms) × (event_encoding event ≡ bytes) × IsTrue (are_playable s first) × IsTrue (playable (played play s first) event)
+pub split_last : (events : List Event) (forms : List (List ℕ)) (bytes : List ℕ) (more : List (List ℕ)) (s : State) → IsTrue (are_playable s events)
+    → map event_encoding events ≡ (forms ++ bytes ∷ []) ++ more
+    → (first : List Event) × (event : Event) × (map event_encoding first ≡ forms) × (event_encoding event ≡ bytes) × IsTrue (are_playable s first)
+    × IsTrue (playable (played play s first) event)
 split_last [] [] bytes more s could is = absurd cc
 split_last [] (f ∷ forms) bytes more s could is = absurd cc
 split_last (e ∷ events) [] bytes more s could is = let same : event_encoding e ≡ bytes = cc in ([], e, refl, same, refl, and_left _ _ could)
@@ -62,7 +70,8 @@ split_last (e ∷ events) (f ∷ forms) bytes more s could is =
     )
 
 -- no events have these encodings, where the bytes of the last are no event that can be made
-pub none_has : (made events : List Event) (bytes : List ℕ) (more : List (List ℕ)) → IsTrue (are_playable empty made) → ((event : Event) → IsTrue (playable (played play empty made) event) → bytes ≡ event_encoding event → ⊥)
+pub none_has : (made events : List Event) (bytes : List ℕ) (more : List (List ℕ)) → IsTrue (are_playable empty made)
+    → ((event : Event) → IsTrue (playable (played play empty made) event) → bytes ≡ event_encoding event → ⊥)
     → IsTrue (are_playable empty events) → map event_encoding events ≡ (map event_encoding made ++ bytes ∷ []) ++ more → ⊥
 none_has made events bytes more could none could_all is =
     let split = split_last events (map event_encoding made) bytes more empty could_all is in
@@ -80,9 +89,12 @@ pub map-more : (events : List Event) (event : Event) → map event_encoding (eve
 map-more [] event = refl
 map-more (e ∷ events) event = ap (λ (l : List (List ℕ)). event_encoding e ∷ l) (map-more events event)
 
-pub playable-more : (s : State) (events : List Event) (event : Event) → IsTrue (are_playable s events) → IsTrue (playable (played play s events) event) → IsTrue (are_playable s (events ++ event ∷ []))
+pub playable-more : (s : State) (events : List Event) (event : Event) → IsTrue (are_playable s events)
+    → IsTrue (playable (played play s events) event) → IsTrue (are_playable s (events ++ event ∷ []))
 playable-more s [] event could can = subst (λ (b : Bool). IsTrue (b && true)) (sym can) refl
-playable-more s (e ∷ events) event could can = subst (λ (b : Bool). IsTrue (b && are_playable (play s e) (events ++ event ∷ []))) (sym (and_left _ _ could)) (playable-more (play s e) events event (and_right _ _ could) can)
+playable-more s (e ∷ events) event could can =
+    subst (λ (b : Bool). IsTrue (b && are_playable (play s e) (events ++ event ∷ []))) (sym (and_left _ _ could))
+    (playable-more (play s e) events event (and_right _ _ could) can)
 
 -- a file stands for one list of events
 pub same_events : (file : List ℕ) (first made : List Event) → StandsForEvents file first → StandsForEvents file made → first ≡ made
@@ -116,7 +128,8 @@ longer_form f h a b s t one next =
       within = omega (arith, within, size_f, size_h, size_same);
     }
 
-next_form : (a b : List (List ℕ)) (s t : List ℕ) → records a ++ s ≡ records b ++ t → length (records a) < length (records b) → All IsShort a → All IsShort b → NextForm a b s t
+next_form : (a b : List (List ℕ)) (s t : List ℕ) → records a ++ s ≡ records b ++ t → length (records a) < length (records b) → All IsShort a
+    → All IsShort b → NextForm a b s t
 next_form [] [] s t same longer short_a short_b = absurd (omega (arith, longer))
 next_form [] (h ∷ b) s t same longer short_a short_b = record {
   form = h;
@@ -129,7 +142,8 @@ next_form [] (h ∷ b) s t same longer short_a short_b = record {
 next_form (f ∷ a) [] s t same longer short_a short_b = absurd (omega (arith, longer))
 next_form (f ∷ a) (h ∷ b) s t same longer short_a short_b =
     let tails : (four_bytes (length f) ++ f) ++ (records a ++ s) ≡ (four_bytes (length h) ++ h) ++ (records b ++ t) =
-    sym (append_assoc (four_bytes (length f) ++ f) (records a) s) ∙ ap (λ (l : List ℕ). drop 1 l) same ∙ append_assoc (four_bytes (length h) ++ h) (records b) t in
+    sym (append_assoc (four_bytes (length f) ++ f) (records a) s) ∙ ap (λ (l : List ℕ). drop 1 l) same
+    ∙ append_assoc (four_bytes (length h) ++ h) (records b) t in
     let short_f = first_of a f short_a in
     let short_h = first_of b h short_b in
     let one = form_same f h (records a ++ s) (records b ++ t) short_f short_h tails in
@@ -148,7 +162,8 @@ no_header_reads : (file : List ℕ) (forms : List (List ℕ)) (place at : ℕ) �
 no_header_reads file forms place at reads none =
     let within = none.within in
     let inside : at < place = omega (arith, within, reads.place_is) in
-    none.differs (sym (get_or-take place file at 0 inside) ∙ ap (λ (l : List ℕ). get_or l at 0) reads.prefix ∙ get_or_append_left header (records forms) 0 at (omega (arith, within, length-header)))
+    none.differs (sym (get_or-take place file at 0 inside) ∙ ap (λ (l : List ℕ). get_or l at 0) reads.prefix
+    ∙ get_or_append_left header (records forms) 0 at (omega (arith, within, length-header)))
 
 -- of two places where the header differs neither is the earlier
 no_header_before : (file : List ℕ) (a b : ℕ) → IsNoHeader file a → IsNoHeader file b → a < b → ⊥
@@ -156,7 +171,8 @@ no_header_before file a b one two before =
     one.differs (sym (get_or-take b file a 0 before) ∙ ap (λ (l : List ℕ). get_or l a 0) two.same ∙ get_or-take b header a 0 before)
 
 -- events whose records go on after those of others, by one encoding at least: these and one more have the first of these
-one_event_more : (events : List Event) (forms : List (List ℕ)) (form : List ℕ) (more : List (List ℕ)) → IsTrue (are_playable empty events) → map event_encoding events ≡ forms ++ form ∷ more
+one_event_more : (events : List Event) (forms : List (List ℕ)) (form : List ℕ) (more : List (List ℕ)) → IsTrue (are_playable empty events)
+    → map event_encoding events ≡ forms ++ form ∷ more
     → (next : List Event) × IsTrue (are_playable empty next) × (map event_encoding next ≡ forms ++ form ∷ [])
 one_event_more events forms form more could is =
     let split = split_last events forms form more empty could (is ∙ sym (append_assoc forms (form ∷ []) more)) in (
@@ -166,19 +182,22 @@ one_event_more events forms form more could is =
     )
 
 -- a reading of events goes on where another is broken
-module _ (file : List ℕ) (p q : ℕ) (events : List Event) (broken : IsBroken file p) (could : IsTrue (are_playable empty events)) (reads : ReadsTo file (map event_encoding events) q) (before : p < q) (low : q < 2 ^ 40) where
+module _ (file : List ℕ) (p q : ℕ) (events : List Event) (broken : IsBroken file p) (could : IsTrue (are_playable empty events))
+    (reads : ReadsTo file (map event_encoding events) q) (before : p < q) (low : q < 2 ^ 40) where
   sizes : length (records (map event_encoding broken.events)) < length (records (map event_encoding events))
   sizes = let place_p = broken.reads.place_is in let place_q = reads.place_is in omega (arith, before, place_p, place_q)
 
   next : NextForm (map event_encoding broken.events) (map event_encoding events) (drop p file) (drop q file)
-  next = next_form (map event_encoding broken.events) (map event_encoding events) (drop p file) (drop q file) (sym (behind_header file (map event_encoding broken.events) p broken.reads) ∙ behind_header file (map event_encoding events) q reads)
+  next = next_form (map event_encoding broken.events) (map event_encoding events) (drop p file) (drop q file)
+      (sym (behind_header file (map event_encoding broken.events) p broken.reads) ∙ behind_header file (map event_encoding events) q reads)
       sizes broken.reads.sizes reads.sizes
 
   room : p + 5 + length next.form < 2 ^ 40
   room = let place_p = broken.reads.place_is in let place_q = reads.place_is in let within = next.within in omega (arith, low, place_p, place_q, within)
 
   there : take (5 + length next.form) (drop p file) ≡ record_of next.form
-  there = ap (λ (l : List ℕ). take (5 + length next.form) l) next.stands ∙ take_at (record_of next.form) (records next.more ++ drop q file) (5 + length next.form) (length-record_of next.form)
+  there = ap (λ (l : List ℕ). take (5 + length next.form) l) next.stands
+      ∙ take_at (record_of next.form) (records next.more ++ drop q file) (5 + length next.form) (length-record_of next.form)
 
   pub goes_on : ⊥
   goes_on = elim broken.stuck [
@@ -186,13 +205,18 @@ module _ (file : List ℕ) (p q : ℕ) (events : List Event) (broken : IsBroken 
     | inr unplayable ↦
         let longer : length (records (map event_encoding broken.events)) < length (records (map event_encoding broken.events ++ unplayable.bytes ∷ [])) =
         (let place_p = broken.reads.place_is in let place_u = unplayable.reads.place_is in omega (arith, place_p, place_u)) in
-        let last = next_form (map event_encoding broken.events) (map event_encoding broken.events ++ unplayable.bytes ∷ []) (drop p file) (drop (p + 5 + length unplayable.bytes) file)
-        (sym (behind_header file (map event_encoding broken.events) p broken.reads) ∙ behind_header file (map event_encoding broken.events ++ unplayable.bytes ∷ []) (p + 5 + length unplayable.bytes) unplayable.reads)
+        let last = next_form (map event_encoding broken.events) (map event_encoding broken.events ++ unplayable.bytes ∷ []) (drop p file)
+        (drop (p + 5 + length unplayable.bytes) file)
+        (sym (behind_header file (map event_encoding broken.events) p broken.reads)
+        ∙ behind_header file (map event_encoding broken.events ++ unplayable.bytes ∷ []) (p + 5 + length unplayable.bytes) unplayable.reads)
         longer broken.reads.sizes unplayable.reads.sizes in
-        let tails : (four_bytes (length last.form) ++ last.form) ++ (records last.more ++ drop (p + 5 + length unplayable.bytes) file) ≡ (four_bytes (length next.form) ++ next.form) ++ (records next.more ++ drop q file) =
+        let tails : (four_bytes (length last.form) ++ last.form)
+        ++ (records last.more ++ drop (p + 5 + length unplayable.bytes) file) ≡ (four_bytes (length next.form) ++ next.form)
+        ++ (records next.more ++ drop q file) =
         ap (λ (l : List ℕ). drop 1 l) (sym last.stands ∙ next.stands) in
         let same : unplayable.bytes ≡ next.form = last_same (map event_encoding broken.events) last.more unplayable.bytes last.form last.is
-        ∙ form_same last.form next.form (records last.more ++ drop (p + 5 + length unplayable.bytes) file) (records next.more ++ drop q file) last.short next.short tails in
+        ∙ form_same last.form next.form (records last.more ++ drop (p + 5 + length unplayable.bytes) file)
+        (records next.more ++ drop q file) last.short next.short tails in
         let more = one_event_more events (map event_encoding broken.events) next.form next.more could next.is in
         unplayable.no_event more.0 more.1 (more.2 ∙ ap (λ (l : List ℕ). map event_encoding broken.events ++ l ∷ []) (sym same))
   ]
@@ -228,8 +252,10 @@ damaged_for_none file at damaged events stood = elim stood.forms [
     | inr broken ↦ elim broken.stuck [
       | inl stuck ↦ stuck_for_all file (map event_encoding broken.events) (map event_encoding events) at many.1.0 broken.reads stuck many.1.1
       | inr unplayable ↦
-          let more = reads_first file (map event_encoding broken.events ++ unplayable.bytes ∷ []) (map event_encoding events) (at + 5 + length unplayable.bytes) many.1.0 unplayable.reads many.1.1 in
-          let first = one_event_more events (map event_encoding broken.events) unplayable.bytes more.0 stood.playable (more.1 ∙ append_assoc (map event_encoding broken.events) (unplayable.bytes ∷ []) more.0) in
+          let more = reads_first file (map event_encoding broken.events ++ unplayable.bytes ∷ []) (map event_encoding events)
+          (at + 5 + length unplayable.bytes) many.1.0 unplayable.reads many.1.1 in
+          let first = one_event_more events (map event_encoding broken.events) unplayable.bytes more.0 stood.playable
+          (more.1 ∙ append_assoc (map event_encoding broken.events) (unplayable.bytes ∷ []) more.0) in
           unplayable.no_event first.0 first.1 first.2
     ]
   ]

@@ -1,5 +1,6 @@
 -- What is shown of working models and versions stays where the metamodel is extended.
-use Rattle.std.proofs.Common.{◌≡◌, ◌⊎◌, inl, inr, ℕ, ◌+◌, ◌≤◌, nat_lt, Bool, true, false, List, [], ◌∷◌, ◌++◌, length, length-append, Option, None, Some, Result, Ok, Err, arith, refl, sym, ap, subst, ◌∙◌, zero, suc}
+use Rattle.std.proofs.Common.{◌≡◌, ◌⊎◌, inl, inr, ℕ, ◌+◌, ◌≤◌, nat_lt, Bool, true, false, List, [], ◌∷◌, ◌++◌, length, length-append, Option, None}
+use Rattle.std.proofs.Common.{Some, Result, Ok, Err, arith, refl, sym, ap, subst, ◌∙◌, zero, suc}
 use Rattle.std.specs.Prelude.{IsTrue, unwrap_or}
 use Rattle.std.proofs.lemmas.Bool.{ltb-true, ltb-false}
 use Rattle.std.proofs.lemmas.Option.{slice_get_past}
@@ -42,7 +43,8 @@ paths_counted paths (v ∷ vs) =
 -- no operation leads to a version that is not there
 none_past : (h : History) (v : ℕ) → length h.versions ≤ v → operations_to h v ≡ []
 none_past h v past =
-    ap (λ (o : Option (List ℕ)). operations_of h.versions (unwrap_or o [])) (slice_get_past (paths_from [] h.versions) v (omega (arith, past, paths_counted [] h.versions)))
+    ap (λ (o : Option (List ℕ)). operations_of h.versions (unwrap_or o []))
+    (slice_get_past (paths_from [] h.versions) v (omega (arith, past, paths_counted [] h.versions)))
 
 module _ (s : State) (old new : Meta) (has : HasMetamodel s old) (grew : Evolves old new) where
   abbrev h : History
@@ -67,7 +69,8 @@ module _ (s : State) (old new : Meta) (has : HasMetamodel s old) (grew : Evolves
       by : (b : Bool) → nat_lt v (length h.versions) ≡ b → text new (state_of new h v) ≡ text old (state_of old h v)
       by true is =
           let within = ltb-true v (length h.versions) is in
-          ap (text new) (version_stays old new grew h v ((kept s old has).versions v within)) ∙ growth_keeps_text old new grew (state_of old h v) (versions_are_good s old has v within)
+          ap (text new) (version_stays old new grew h v ((kept s old has).versions v within))
+          ∙ growth_keeps_text old new grew (state_of old h v) (versions_are_good s old has v within)
       by false is =
           let past = ltb-false v (length h.versions) is in
           ap (text new) (empty new past) ∙ growth_keeps_text old new grew nothing (starts_good old) ∙ ap (text old) (sym (empty old past))
@@ -76,7 +79,8 @@ module _ (s : State) (old new : Meta) (has : HasMetamodel s old) (grew : Evolves
   text_same (Err fault) = refl
   text_same (Ok found) = ap (λ (t : List ℕ). told (t ∷ []) []) (version_text found.version)
 
-  shows : (after : State) → after.meta ≡ Some new → after.history ≡ h → ((ws : ℕ) → workspace_of after ws ≡ workspace_of s ws) → (block more : Option (List ℕ)) (ws : ℕ)
+  shows : (after : State) → after.meta ≡ Some new → after.history ≡ h → ((ws : ℕ) → workspace_of after ws ≡ workspace_of s ws)
+      → (block more : Option (List ℕ)) (ws : ℕ)
       → decide_with after after.meta block (commands.Show ws) ≡ decide_with s s.meta more (commands.Show ws)
   unfolding decide_show
   shows after is same stands block more ws =
@@ -85,7 +89,8 @@ module _ (s : State) (old new : Meta) (has : HasMetamodel s old) (grew : Evolves
       ∙ shown_same ws (workspace_of s ws) refl
       ∙ ap (λ (m : Option Meta). decide_with s m more (commands.Show ws)) (sym has.begun)
 
-  cats : (after : State) → after.meta ≡ Some new → after.history ≡ h → (block more : Option (List ℕ)) (spec : _) → decide_with after after.meta block (commands.Cat spec) ≡ decide_with s s.meta more (commands.Cat spec)
+  cats : (after : State) → after.meta ≡ Some new → after.history ≡ h → (block more : Option (List ℕ)) (spec : _)
+      → decide_with after after.meta block (commands.Cat spec) ≡ decide_with s s.meta more (commands.Cat spec)
   unfolding decide_cat
   cats after is same block more spec =
       ap (λ (m : Option Meta). decide_with after m block (commands.Cat spec)) is

@@ -14,7 +14,8 @@ take_front [] ys = refl
 take_front (o ∷ os) ys = ap (λ (l : List Operation). o ∷ l) (take_front os ys)
 
 pub last_gone : (os : List Operation) (o : Operation) → take (length (os ++ o ∷ []) - 1) (os ++ o ∷ []) ≡ os
-last_gone os o = let n : length (os ++ o ∷ []) - 1 ≡ length os = omega (arith, length-append os (o ∷ [])) in ap (λ n. take n (os ++ o ∷ [])) n ∙ take_front os (o ∷ [])
+last_gone os o = let n : length (os ++ o ∷ []) - 1 ≡ length os = omega (arith, length-append os (o ∷ []))
+    in ap (λ n. take n (os ++ o ∷ [])) n ∙ take_front os (o ∷ [])
 
 undone : (w : Workspace) (o : Operation) → w.composite ≡ None → without_last (with_more (o ∷ []) w) ≡ w
 undone w o is =

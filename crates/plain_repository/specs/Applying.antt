@@ -103,7 +103,8 @@ abbrev pub revert_found : State → Meta → ℕ → Workspace → Result Found 
 revert_found s meta ws w (Err fault) = refused (unknown fault)
 revert_found s meta ws w (Ok found) =
     let operations = package_at s.history.versions found.version in
-    if is_among (path s.history w.base) found.version then taken_out s meta ws w operations (first_interfering meta s.history.versions operations (path_after s.history found.version w.base))
+    if is_among (path s.history w.base) found.version then taken_out s meta ws w operations
+    (first_interfering meta s.history.versions operations (path_after s.history found.version w.base))
     else refused refusals.NotOnPath
 
 -- the same, where no composite is open

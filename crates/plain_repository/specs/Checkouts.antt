@@ -38,7 +38,8 @@ checkout_words s found = join_with_byte 32 (decimal (length s.workspaces + 1) �
 -- a new workspace, where a version was found
 abbrev pub checkout_of : State → Meta → Result Found FindFault → Decision
 checkout_of s meta (Err fault) = refused (unknown fault)
-checkout_of s meta (Ok found) = with_room s (text meta (state_of meta s.history found.version) ∷ []) (checkout_words s found) (events.Checkout found.version found.branch)
+checkout_of s meta (Ok found) =
+    with_room s (text meta (state_of meta s.history found.version) ∷ []) (checkout_words s found) (events.Checkout found.version found.branch)
 
 -- `checkout SPEC`: a workspace at the version, whose text is printed
 unfoldable pub decide_checkout : State → Meta → Spec → Decision

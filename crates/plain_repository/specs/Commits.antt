@@ -1,6 +1,7 @@
 -- The history grows: the commands `commit`, `signed`, `upgrade`, `branch` and `tag`, and the events Commit, Signed, Upgrade, Branch
 -- and Tag.
-use Rattle.std.specs.Prelude.{ℕ, ◌&&◌, ◌==◌, nat_lt, not, List, [], Bool, true, false, length, Option, Some, None, is_some, option_map, unwrap_or, Result, Ok, Err, if◌then◌else◌}
+use Rattle.std.specs.Prelude.{ℕ, ◌&&◌, ◌==◌, nat_lt, not, List, [], Bool, true, false, length, Option, Some, None, is_some, option_map, unwrap_or}
+use Rattle.std.specs.Prelude.{Result, Ok, Err, if◌then◌else◌}
 use Rattle.std.specs.Fmt.{decimal}
 use Rattle.model_state.specs.Names.{is_name}
 use Rattle.history_tree.specs.declared.version.Signature.{Signature}

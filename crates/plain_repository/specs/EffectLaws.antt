@@ -50,7 +50,8 @@ InitsBegin = (s : State) (text : List ℕ) (meta : Meta) → metamodel_of text �
 -- an edit leads to the model that its operations lead to, one by one, from the working model
 abbrev pub EditsLead : Type 0
 EditsLead = (s : State) (meta : Meta) (ws : ℕ) (operations : List Operation) (workspace : Workspace) → CouldBeIn s meta ws workspace (Edit ws operations)
-    → (model : models.State) × (fold_package meta (model_of meta s.history workspace) operations ≡ Some model) × HasModel (play s (Edit ws operations)) meta ws model
+    → (model : models.State) × (fold_package meta (model_of meta s.history workspace) operations ≡ Some model)
+    × HasModel (play s (Edit ws operations)) meta ws model
 
 -- a checkout makes the workspace of the next number, whose working model is the state of the version
 abbrev pub CheckoutsShowVersions : Type 0
@@ -67,7 +68,8 @@ EndsKeepModels = KeepsModels (λ ws. End ws)
 
 -- The steps of a composite are one operation: after its end, one undo leaves the workspace as it was before the beginning.
 abbrev pub EndsAreUndone : Type 0
-EndsAreUndone = (s : State) (ws : ℕ) (workspace : Workspace) (composite : Composite) → workspace_of s ws ≡ Some workspace → workspace.composite ≡ Some composite → 0 < length composite.steps
+EndsAreUndone = (s : State) (ws : ℕ) (workspace : Workspace) (composite : Composite) → workspace_of s ws ≡ Some workspace
+    → workspace.composite ≡ Some composite → 0 < length composite.steps
     → workspace_of (play (play s (End ws)) (Undo ws)) ws ≡ Some (record workspace { composite = None })
 
 -- a discard leaves the state of the base
@@ -82,7 +84,8 @@ DropsTakeAway = (s : State) (ws : ℕ) → workspace_of (play s (Drop ws)) ws �
 -- ---- the history
 -- the working model is the state of the new version
 abbrev pub CommitsKeepStates : Type 0
-CommitsKeepStates = (s : State) (meta : Meta) (ws : ℕ) (signature : Option Signature) (message : List ℕ) (workspace : Workspace) → CouldBeIn s meta ws workspace (version_event ws signature message)
+CommitsKeepStates = (s : State) (meta : Meta) (ws : ℕ) (signature : Option Signature) (message : List ℕ) (workspace : Workspace)
+    → CouldBeIn s meta ws workspace (version_event ws signature message)
     → state_of meta (play s (version_event ws signature message)).history (length s.history.versions) ≡ model_of meta s.history workspace
 
 -- a new branch leaves the working model

@@ -5,7 +5,8 @@ use Rattle.commit_journal.specs.Journal.{next_gate}
 use Rattle.ecore_meta.specs.Meta.{Meta}
 use Rattle.model_state.specs.Names.{is_name}
 use Rattle.op_form.specs.declared.event.Event.{Event}
-use Rattle.op_form.specs.declared.event.Event.TheVariants.{Init, Checkout, Edit, Begin, End, Undo, Discard, Tidy, Commit, Branch, Tag, Update, Merge, Drop, Evolve, Upgrade, Signed}
+use Rattle.op_form.specs.declared.event.Event.TheVariants.{Init, Checkout, Edit, Begin, End, Undo, Discard, Tidy, Commit, Branch, Tag, Update, Merge}
+use Rattle.op_form.specs.declared.event.Event.TheVariants.{Drop, Evolve, Upgrade, Signed}
 use Rattle.history_tree.specs.History.{head}
 use Rattle.op_form.specs.Events.{event_encoding}
 use Rattle.plain_repository.specs.State.{State, Workspace, workspace_of, with_changed, is_open, is_closed}

@@ -1,5 +1,6 @@
 -- What holds in every repository that events make.
-use Rattle.std.specs.Prelude.{◌≡◌, ◌≢◌, ◌↔◌, ◌⊎◌, ℕ, ◌<◌, ◌≤◌, ◌||◌, ◌&&◌, nat_lt, List, [], ◌∷◌, ◌++◌, All, codes, map, take, Bool, true, false, Option, Some, None, Ok, IsTrue, is_some, length, slice_get}
+use Rattle.std.specs.Prelude.{◌≡◌, ◌≢◌, ◌↔◌, ◌⊎◌, ℕ, ◌<◌, ◌≤◌, ◌||◌, ◌&&◌, nat_lt, List, [], ◌∷◌, ◌++◌, All, codes, map, take, Bool, true, false}
+use Rattle.std.specs.Prelude.{Option, Some, None, Ok, IsTrue, is_some, length, slice_get}
 use Rattle.std.specs.List.{list_any}
 use Rattle.command_runs.specs.Runs.{played}
 use Rattle.ecore_meta.specs.Meta.{Meta}
@@ -85,11 +86,13 @@ HasIds meta m = (e : IdBytes) → is_live m e ≡ true → is_id e ≡ true
 
 -- the steps recorded in a workspace can be taken one by one from the state of its base, and lead to the working model
 abbrev pub ModelsAreDefined : Type 0
-ModelsAreDefined = (s : State) (meta : Meta) (workspace : Workspace) → IsThere s meta workspace → folded meta s.history workspace ≡ Some (model_of meta s.history workspace)
+ModelsAreDefined = (s : State) (meta : Meta) (workspace : Workspace) → IsThere s meta workspace
+    → folded meta s.history workspace ≡ Some (model_of meta s.history workspace)
 
 -- the operations on the path of a version can be taken one by one from the empty project, and lead to its state
 abbrev pub VersionsAreDefined : Type 0
-VersionsAreDefined = (s : State) (meta : Meta) → HasMetamodel s meta → (v : ℕ) → v < length s.history.versions → state_folded meta s.history v ≡ Some (state_of meta s.history v)
+VersionsAreDefined = (s : State) (meta : Meta) → HasMetamodel s meta → (v : ℕ) → v < length s.history.versions
+    → state_folded meta s.history v ≡ Some (state_of meta s.history v)
 
 -- what holds of every metamodel holds of the one that is there after any events that could be made
 abbrev pub MetamodelsHold : Type 0
@@ -135,7 +138,8 @@ TagsAreNamed = (s : State) (meta : Meta) → HasMetamodel s meta → (k : ℕ) (
 
 -- no two tags have one name
 abbrev pub TagNamesDiffer : Type 0
-TagNamesDiffer = (s : State) (meta : Meta) → HasMetamodel s meta → (k n : ℕ) (tag other : Tag) → slice_get s.history.tags k ≡ Some tag → slice_get s.history.tags n ≡ Some other
+TagNamesDiffer = (s : State) (meta : Meta) → HasMetamodel s meta → (k n : ℕ) (tag other : Tag) → slice_get s.history.tags k ≡ Some tag
+    → slice_get s.history.tags n ≡ Some other
     → tag.name ≡ other.name → k ≡ n
 
 -- each event that could be made changes something beside the numbers that every event raises
@@ -161,11 +165,13 @@ pub record SomeAreOfNone : Type 0 where
 
 -- an event that is not of a workspace leaves its branch, base, operations, open composite and pending list
 abbrev pub WorkspacesStayApart : Type 0
-WorkspacesStayApart = (s : State) (ws : ℕ) (workspace : Workspace) → workspace_of s ws ≡ Some workspace → (event : Event) → is_of ws event ≡ false → workspace_of (play s event) ws ≡ Some workspace
+WorkspacesStayApart = (s : State) (ws : ℕ) (workspace : Workspace) → workspace_of s ws ≡ Some workspace → (event : Event) → is_of ws event ≡ false
+    → workspace_of (play s event) ws ≡ Some workspace
 
 -- And no event changes the model of a workspace that stays as it is. The model after it is said by the metamodel that is there then.
 abbrev pub ModelsStayApart : Type 0
-ModelsStayApart = (s : State) (meta now : Meta) (workspace : Workspace) → IsThere s meta workspace → (event : Event) → IsTrue (playable s event) → (play s event).meta ≡ Some now
+ModelsStayApart = (s : State) (meta now : Meta) (workspace : Workspace) → IsThere s meta workspace → (event : Event) → IsTrue (playable s event)
+    → (play s event).meta ≡ Some now
     → model_of now (play s event).history workspace ≡ model_of meta s.history workspace
 
 -- the replies to the commands that show a workspace
@@ -181,20 +187,24 @@ pub record LookAlike (meta : Meta) (h g : History) (w v : Workspace) : Type 0 wh
 -- Such are shown alike, whatever else there is. What is shown of a workspace goes by the metamodel, the state of its base and
 -- what is recorded in it.
 abbrev pub ShownByOwn : Type 0
-ShownByOwn = (s t : State) (meta : Meta) → s.meta ≡ Some meta → t.meta ≡ Some meta → (ws k : ℕ) (w v : Workspace) → workspace_of s ws ≡ Some w → workspace_of t k ≡ Some v → LookAlike meta s.history t.history w v
+ShownByOwn = (s t : State) (meta : Meta) → s.meta ≡ Some meta → t.meta ≡ Some meta → (ws k : ℕ) (w v : Workspace) → workspace_of s ws ≡ Some w
+    → workspace_of t k ≡ Some v → LookAlike meta s.history t.history w v
     → (block more : Option (List ℕ)) → shown_as s block ws ≡ shown_as t more k
 
 -- So an event that is not of a workspace, and leaves the metamodel, leaves what is shown of the workspace.
 abbrev pub ShownApart : Type 0
-ShownApart = (s : State) (meta : Meta) → HasMetamodel s meta → (ws : ℕ) (w : Workspace) → workspace_of s ws ≡ Some w → (event : Event) → IsTrue (playable s event) → is_of ws event ≡ false
+ShownApart = (s : State) (meta : Meta) → HasMetamodel s meta → (ws : ℕ) (w : Workspace) → workspace_of s ws ≡ Some w → (event : Event)
+    → IsTrue (playable s event) → is_of ws event ≡ false
     → (play s event).meta ≡ Some meta → (block : Option (List ℕ)) → shown_as (play s event) block ws ≡ shown_as s block ws
 
 -- the answers to `show`, `cat`, `changes` and `package` are the same after an event
 pub record ShowsTexts (s : State) (event : Event) : Type 0 where
   pub show : (block more : Option (List ℕ)) (ws : ℕ) → decide_command (play s event) block (commands.Show ws) ≡ decide_command s more (commands.Show ws)
   pub cat : (block more : Option (List ℕ)) (spec : Spec) → decide_command (play s event) block (commands.Cat spec) ≡ decide_command s more (commands.Cat spec)
-  pub changes : (block more : Option (List ℕ)) (ws : ℕ) → decide_command (play s event) block (commands.Changes ws) ≡ decide_command s more (commands.Changes ws)
-  pub packages : (block more : Option (List ℕ)) (spec : Spec) → decide_command (play s event) block (commands.Package spec) ≡ decide_command s more (commands.Package spec)
+  pub changes : (block more : Option (List ℕ)) (ws : ℕ)
+      → decide_command (play s event) block (commands.Changes ws) ≡ decide_command s more (commands.Changes ws)
+  pub packages : (block more : Option (List ℕ)) (spec : Spec)
+      → decide_command (play s event) block (commands.Package spec) ≡ decide_command s more (commands.Package spec)
 
 -- So they are where the metamodel is extended. What the new metamodel asks for `validate` may show.
 abbrev pub TextsStay : Type 0
@@ -202,7 +212,8 @@ TextsStay = (s : State) (meta : Meta) → HasMetamodel s meta → (text : List �
 
 -- an extended metamodel has all parts of the one before, with their numbers
 abbrev pub MetamodelsGrow : Type 0
-MetamodelsGrow = (s : State) (meta now : Meta) → HasMetamodel s meta → (event : Event) → IsTrue (playable s event) → (play s event).meta ≡ Some now → (now ≡ meta) ⊎ Preserves meta now
+MetamodelsGrow = (s : State) (meta now : Meta) → HasMetamodel s meta → (event : Event) → IsTrue (playable s event) → (play s event).meta ≡ Some now
+    → (now ≡ meta) ⊎ Preserves meta now
 
 -- no event takes a place of the list of workspaces away, so each checkout makes a new number
 abbrev pub NumbersOnlyGrow : Type 0
@@ -210,7 +221,8 @@ NumbersOnlyGrow = (s : State) (event : Event) → length s.workspaces ≤ length
 
 -- and the place of a workspace that was dropped stays empty
 abbrev pub DroppedStayDropped : Type 0
-DroppedStayDropped = (s : State) (place : ℕ) → slice_get s.workspaces place ≡ Some None → (event : Event) → slice_get (play s event).workspaces place ≡ Some None
+DroppedStayDropped = (s : State) (place : ℕ) → slice_get s.workspaces place ≡ Some None → (event : Event)
+    → slice_get (play s event).workspaces place ≡ Some None
 
 -- ---- commands
 -- where the reply is a refusal there is no event
@@ -223,7 +235,8 @@ RefusalsMakeNone = (s : State) (line : List ℕ) (block : Option (List ℕ)) →
 
 -- the ids that an import gives to the elements of its block are the first that are free, and have numbers below 2^64 - 1
 abbrev pub GivesNumbers : State → Option (List ℕ) → Command → Type 0
-GivesNumbers s block (commands.Import ws) = (meta : Meta) (w : Workspace) (rows : List DocRow) → s.meta ≡ Some meta → workspace_of s ws ≡ Some w → doc_of meta (block_text block) ≡ Ok rows
+GivesNumbers s block (commands.Import ws) = (meta : Meta) (w : Workspace) (rows : List DocRow) → s.meta ≡ Some meta → workspace_of s ws ≡ Some w
+    → doc_of meta (block_text block) ≡ Ok rows
     → let m = model_of meta s.history w in AreNames m rows ws 1 rows (names_of m ws rows)
 GivesNumbers s block command = Unit {0}
 
@@ -235,7 +248,8 @@ pub record MakesEvent (s : State) (block : Option (List ℕ)) (command : Command
 
 -- in a state in order, such an event could be made
 abbrev pub DecidedCouldBe : Type 0
-DecidedCouldBe = (s : State) → IsOrderly s → (block : Option (List ℕ)) (command : Command) (event : Event) → MakesEvent s block command event → IsTrue (playable s event)
+DecidedCouldBe = (s : State) → IsOrderly s → (block : Option (List ℕ)) (command : Command) (event : Event) → MakesEvent s block command event
+    → IsTrue (playable s event)
 
 -- the line begins as the last line of a reply does: with the bytes of `ok` or of `no`
 abbrev pub looks_last : List ℕ → Bool
@@ -252,7 +266,8 @@ is_validate command = false
 
 -- no data line looks so but those of `validate`
 abbrev pub DataLinesAreApart : Type 0
-DataLinesAreApart = (s : State) (block : Option (List ℕ)) (command : Command) → is_validate command ≡ false → All (λ line. looks_last line ≡ false) (decide_command s block command).reply.lines
+DataLinesAreApart = (s : State) (block : Option (List ℕ)) (command : Command) → is_validate command ≡ false
+    → All (λ line. looks_last line ≡ false) (decide_command s block command).reply.lines
 
 -- there is a metamodel and the workspace, and its base, the first number, is not its branch's head, the second
 pub record IsStale (s : State) (ws base head_of_branch : ℕ) : Type 0 where
@@ -299,7 +314,8 @@ UndoGivesBack = (s : State) (ws : ℕ) (workspace : Workspace) → workspace_of 
 
 -- a commit that could be made leaves the working model
 abbrev pub CommitsKeepModels : Type 0
-CommitsKeepModels = (s : State) (meta : Meta) → HasMetamodel s meta → (ws : ℕ) (before after : Workspace) (signature : Option Signature) (message : List ℕ) → IsTrue (playable s (version_event ws signature message))
+CommitsKeepModels = (s : State) (meta : Meta) → HasMetamodel s meta
+    → (ws : ℕ) (before after : Workspace) (signature : Option Signature) (message : List ℕ) → IsTrue (playable s (version_event ws signature message))
     → workspace_of s ws ≡ Some before → workspace_of (play s (version_event ws signature message)) ws ≡ Some after
     → model_of meta (play s (version_event ws signature message)).history after ≡ model_of meta s.history before
 
@@ -330,7 +346,8 @@ UpgradesStay = (s : State) (event : Event) → (play s event).upgraded ≡ (is_u
 -- an event that could be made adds signed versions to a store that is upgraded, and unsigned ones to one that is not
 pub record NewVersionsAreSigned : Type 0 where
   pub signed : (s : State) → IsOrderly s → s.upgraded ≡ true → (event : Event) → IsTrue (playable s event) → AddsSuch IsSigned s.history (play s event).history
-  pub unsigned : (s : State) → IsOrderly s → s.upgraded ≡ false → (event : Event) → IsTrue (playable s event) → AddsSuch IsUnsigned s.history (play s event).history
+  pub unsigned : (s : State) → IsOrderly s → s.upgraded ≡ false → (event : Event) → IsTrue (playable s event)
+      → AddsSuch IsUnsigned s.history (play s event).history
 
 -- the versions that events make before Upgrade are unsigned, and those behind it signed
 pub record AreSignedSince (before after : List Event) : Type 0 where

@@ -35,7 +35,8 @@ TidyingKeepsModels = (s : State) (meta : Meta) (ws : ℕ) (before after : Worksp
 -- they keep of mine.
 abbrev pub UpdatesMerge : Type 0
 UpdatesMerge = (s : State) (meta : Meta) (ws : ℕ) (letters : List ℕ) (before after : Workspace) → Changes s meta ws (Update ws letters) before after
-    → merged meta (state_of meta s.history before.base) (incoming s.history before.branch before.base) before.operations (update_buckets meta s.history before) (map side_of letters)
+    → merged meta (state_of meta s.history before.base) (incoming s.history before.branch before.base) before.operations
+    (update_buckets meta s.history before) (map side_of letters)
     ≡ Some (model_of meta (play s (Update ws letters)).history after)
 
 -- A merge leads to the merged model. That is, from the state of the version where it begins, what the choices keep of theirs, and
@@ -43,7 +44,8 @@ UpdatesMerge = (s : State) (meta : Meta) (ws : ℕ) (letters : List ℕ) (before
 abbrev pub MergesMerge : Type 0
 MergesMerge = (s : State) (meta : Meta) (ws branch : ℕ) (letters : List ℕ) (before after : Workspace) → Changes s meta ws (Merge ws branch letters) before after
     → let other = head s.history branch in
-    merged meta (state_of meta s.history (merge_base s.history before.base before.pending other)) (merge_theirs s.history before other) (merge_mine meta s.history before other) (merge_buckets meta s.history before other) (map side_of letters)
+    merged meta (state_of meta s.history (merge_base s.history before.base before.pending other)) (merge_theirs s.history before other)
+    (merge_mine meta s.history before other) (merge_buckets meta s.history before other) (map side_of letters)
     ≡ Some (model_of meta (play s (Merge ws branch letters)).history after)
 
 -- a merge counts the version as merged: the next merge of it finds nothing
@@ -57,5 +59,7 @@ path_without h v last = filter (λ u. not (u == v)) (path h last)
 
 -- a revert leads to what the versions up to the base but for the one that is reverted, and then the local operations, lead to
 abbrev pub RevertsTakeOut : Type 0
-RevertsTakeOut = (s : State) (meta : Meta) (ws v : ℕ) (block : Option (List ℕ)) (event : Event) (before after : Workspace) → (decide_command s block (commands.Revert ws v)).event ≡ Some event → Changes s meta ws event before after
-    → fold_package meta nothing (operations_of s.history.versions (path_without s.history v before.base) ++ before.operations) ≡ Some (model_of meta (play s event).history after)
+RevertsTakeOut = (s : State) (meta : Meta) (ws v : ℕ) (block : Option (List ℕ)) (event : Event) (before after : Workspace)
+    → (decide_command s block (commands.Revert ws v)).event ≡ Some event → Changes s meta ws event before after
+    → fold_package meta nothing (operations_of s.history.versions (path_without s.history v before.base) ++ before.operations) ≡ Some
+    (model_of meta (play s event).history after)

@@ -24,7 +24,12 @@ update_buckets meta h w = buckets meta (incoming h w.branch w.base) w.operations
 
 -- the base is the head, and the local operations are what theirs and mine leave by the choices
 abbrev pub updated : Meta → History → List ℕ → Workspace → Workspace
-updated meta h letters w = record w { base = head h w.branch; operations = update_list (incoming h w.branch w.base) w.operations (update_buckets meta h w) (map side_of letters) }
+updated meta h letters w =
+    record w {
+      base = head h w.branch;
+      operations =
+          update_list (incoming h w.branch w.base) w.operations (update_buckets meta h w) (map side_of letters);
+    }
 
 -- no composite is open, the base is not the head, and the choices fit
 abbrev pub can_update : Meta → History → List ℕ → Option Workspace → Bool
@@ -83,7 +88,8 @@ can_merge meta h branch letters (Some w) =
 
 -- nothing changes where there is nothing to merge
 abbrev pub merge_of : State → ℕ → Workspace → ℕ → List ℕ → ℕ → Decision
-merge_of s ws w branch letters other = if has_theirs s.history w other then with_room s [] (decimal other) (events.Merge ws branch letters) else told [] (decimal other)
+merge_of s ws w branch letters other =
+    if has_theirs s.history w other then with_room s [] (decimal other) (events.Merge ws branch letters) else told [] (decimal other)
 
 -- the same, where the branch is there, and another, and the choices fit
 abbrev pub merge_named : State → Meta → ℕ → Workspace → Option (List ℕ) → Option ℕ → Decision

@@ -1,5 +1,6 @@
 -- What the repository holds: the metamodel, the history, and the workspaces with what is recorded in them.
-use Rattle.std.specs.Prelude.{ℕ, zero, suc, ◌||◌, List, [], ◌∷◌, ◌++◌, Bool, false, nat_lt, not, length, slice_get, Option, Some, None, is_some, unwrap_or, option_map}
+use Rattle.std.specs.Prelude.{ℕ, zero, suc, ◌||◌, List, [], ◌∷◌, ◌++◌, Bool, false, nat_lt, not, length, slice_get, Option, Some, None, is_some}
+use Rattle.std.specs.Prelude.{unwrap_or, option_map}
 use Rattle.commit_journal.specs.Journal.{first_gate}
 use Rattle.ecore_meta.specs.Meta.{Meta}
 use Rattle.model_state.specs.State as models

@@ -45,14 +45,19 @@ module _ {A : Type 0} where
   left_of : (xs : List (Bor A)) (s t : List A) → Yields (TakesLast (deref {X = A})) s xs t → (zs : List A) × (s ≡ t ++ zs) × (length zs ≡ length xs)
   left_of [] s t same = ([], same ∙ sym (append_none t), refl)
   left_of (x ∷ xs) s t steps =
-      let rest = left_of xs steps.0 t steps.2 in
-      (rest.0 ++ x.now ∷ [], steps.1 ∙ ap (λ l. l ++ x.now ∷ []) rest.1 ∙ append_assoc t rest.0 (x.now ∷ []), length-append rest.0 (x.now ∷ []) ∙ (one_more (length rest.0)) ∙ ap suc rest.2)
+      let rest = left_of xs steps.0 t steps.2 in (
+        rest.0 ++ x.now ∷ [],
+        steps.1 ∙ ap (λ l. l ++ x.now ∷ []) rest.1 ∙ append_assoc t rest.0 (x.now ∷ []),
+        length-append rest.0 (x.now ∷ [])
+            ∙ (one_more (length rest.0)) ∙ ap suc rest.2,
+      )
     where
       one_more : (n : ℕ) → n + 1 ≡ suc n
       one_more n = omega arith
 
   -- the item that `nth_back` gives
-  pub nth_back_is : (s u : List A) (index n : ℕ) (r : Option (Bor A)) → SkipsThenYields (TakesLast (deref {X = A})) s n r u → index + suc n ≡ length s → option_map (λ x. x.now) r ≡ slice_get s index
+  pub nth_back_is : (s u : List A) (index n : ℕ) (r : Option (Bor A)) → SkipsThenYields (TakesLast (deref {X = A})) s n r u → index + suc n ≡ length s
+      → option_map (λ x. x.now) r ≡ slice_get s index
   nth_back_is s u index n None ran sum =
       let left = left_of ran.0 s ran.1.0 ran.1.1 in
       let empty : length ran.1.0 ≡ 0 = ap length ran.1.2.0 in
@@ -62,6 +67,7 @@ module _ {A : Type 0} where
       let t = ran.1.0 in
       let left = left_of ran.0 s t ran.1.1 in
       let whole : s ≡ (u ++ x.now ∷ []) ++ left.0 = left.1 ∙ ap (λ l. l ++ left.0) ran.1.2 in
-      let size : length s ≡ (length u + 1) + length left.0 = ap length whole ∙ length-append (u ++ x.now ∷ []) left.0 ∙ ap (λ k. k + length left.0) (length-append u (x.now ∷ [])) in
+      let size : length s ≡ (length u + 1) + length left.0 =
+      ap length whole ∙ length-append (u ++ x.now ∷ []) left.0 ∙ ap (λ k. k + length left.0) (length-append u (x.now ∷ [])) in
       let place : length u ≡ index = omega (arith, size, left.2, ran.2, sum) in
       sym (ap (λ l. slice_get l index) whole ∙ ap (slice_get ((u ++ x.now ∷ []) ++ left.0)) (sym place) ∙ after_front u left.0 x.now)

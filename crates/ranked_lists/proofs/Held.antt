@@ -67,14 +67,16 @@ found_one (x ∷ xs) q r is none =
     elim (text_eq x.id q) as (λ b. text_eq x.id q ≡ b → cond b (Some x.rank) (rank_of xs q) ≡ Some r → ⊥) [
       | true ↦ λ here at.
           let rank : x.rank ≡ r = cc in
-          not_none (text_eq x.id q && nat_eq x.rank r) _ (and_both (text_eq x.id q) (nat_eq x.rank r) here (subst (λ k. nat_eq x.rank k ≡ true) rank (nat_equality.own x.rank))) none
+          not_none (text_eq x.id q && nat_eq x.rank r) _
+          (and_both (text_eq x.id q) (nat_eq x.rank r) here (subst (λ k. nat_eq x.rank k ≡ true) rank (nat_equality.own x.rank))) none
       | false ↦ λ _ at. found_one xs q r at (none_more (text_eq x.id q && nat_eq x.rank r) _ none)
     ] refl is
 
 found_none : (xs : List Entry) (q : IdBytes) → rank_of xs q ≡ None → tally (λ (x : Entry). text_eq x.id q) xs ≡ 0
 found_none [] q is = refl
 found_none (x ∷ xs) q is =
-    elim (text_eq x.id q) as (λ b. text_eq x.id q ≡ b → cond b (Some x.rank) (rank_of xs q) ≡ None → cond b 1 0 + tally (λ (x : Entry). text_eq x.id q) xs ≡ 0) [
+    elim (text_eq x.id q) as (λ b. text_eq x.id q ≡ b → cond b (Some x.rank) (rank_of xs q) ≡ None
+    → cond b 1 0 + tally (λ (x : Entry). text_eq x.id q) xs ≡ 0) [
       | true ↦ λ here at. cc
       | false ↦ λ _ at. ap (λ n. 0 + n) (found_none xs q at)
     ] refl is
@@ -84,10 +86,12 @@ module _ (xs : List Entry) (m : Ranks) (h : Holds xs m) where
   there q r some =
       elim (option_eq nat_eq (get m q) (Some r)) as (λ b. option_eq nat_eq (get m q) (Some r) ≡ b → get m q ≡ Some r) [
         | true ↦ λ eq. exact_rank (get m q) eq
-        | false ↦ λ differ. absurd (some (h (λ x. text_eq x.id q && nat_eq x.rank r) ∙ count_none id_order _ m (λ k v at. not_so (text_eq k q && nat_eq v r) (λ both.
+        | false ↦ λ differ. absurd
+            (some (h (λ x. text_eq x.id q && nat_eq x.rank r) ∙ count_none id_order _ m (λ k v at. not_so (text_eq k q && nat_eq v r) (λ both.
             let id : k ≡ q = text_equality.exact k q (and_first (text_eq k q) (nat_eq v r) both) in
             let rank : v ≡ r = nat_equality.exact v r (and_second (text_eq k q) (nat_eq v r) both) in
-            true_false (option_eq nat_eq (get m q) (Some r)) (ap (λ o. option_eq nat_eq o (Some r)) (subst (λ z. get m z ≡ Some v) id at ∙ ap Some rank) ∙ nat_equality.own r) differ))))
+            true_false (option_eq nat_eq (get m q) (Some r))
+            (ap (λ o. option_eq nat_eq o (Some r)) (subst (λ z. get m z ≡ Some v) id at ∙ ap Some rank) ∙ nat_equality.own r) differ))))
       ] refl
     where
       exact_rank : (o : Option ℕ) → option_eq nat_eq o (Some r) ≡ true → o ≡ Some r
@@ -100,7 +104,10 @@ module _ (xs : List Entry) (m : Ranks) (h : Holds xs m) where
   each_of : (ys : List Entry) → ((p : Entry → Bool) → tally p xs ≡ 0 → tally p ys ≡ 0) → AllByRecursion (λ (x : Entry). get m x.id ≡ Some x.rank) ys
   each_of [] within = tt
   each_of (y ∷ ys) within = (
-    there y.id y.rank (λ zero. not_none (text_eq y.id y.id && nat_eq y.rank y.rank) _ (and_both (text_eq y.id y.id) (nat_eq y.rank y.rank) (text_equality.own y.id) (nat_equality.own y.rank)) (within (λ x. text_eq x.id y.id && nat_eq x.rank y.rank) zero)),
+    there y.id y.rank (λ zero.
+        not_none (text_eq y.id y.id && nat_eq y.rank y.rank) _
+        (and_both (text_eq y.id y.id) (nat_eq y.rank y.rank) (text_equality.own y.id) (nat_equality.own y.rank))
+        (within (λ x. text_eq x.id y.id && nat_eq x.rank y.rank) zero)),
     each_of ys (λ p zero. none_more (p y) _ (within p zero)),
   )
 
@@ -136,20 +143,24 @@ moved : (a b c d n k : ℕ) → n + a ≡ c + b → k + a ≡ d + b → c ≡ d 
 moved a b c d n k h g e = omega (arith, h, g, e)
 
 pub holds_set : (xs ys : List Entry) (m : Ranks) (e : IdBytes) (v : Option ℕ) → Holds xs m
-    → ((p : Entry → Bool) → tally p ys + counts (λ (z : IdBytes × ℕ). p (ranked_entry z)) e (get m e) ≡ tally p xs + counts (λ (z : IdBytes × ℕ). p (ranked_entry z)) e v)
+    → ((p : Entry → Bool) → tally p ys + counts (λ (z : IdBytes × ℕ). p (ranked_entry z)) e (get m e) ≡ tally p xs + counts
+    (λ (z : IdBytes × ℕ). p (ranked_entry z)) e v)
     → Holds ys (set m e v)
 holds_set xs ys m e v h change p =
     moved _ _ _ _ _ _ (change p) (count-set id_order (λ (z : IdBytes × ℕ). p (ranked_entry z)) m e v) (h p)
 
 -- entries that were put in order after a write
 pub sorted_set : (xs zs ys : List Entry) (e : IdBytes) (v : Option ℕ) → AreRanked xs → IsPermutation zs ys → IsSorted entry_cmp ys
-    → ((p : Entry → Bool) → tally p zs + counts (λ (z : IdBytes × ℕ). p (ranked_entry z)) e (rank_of xs e) ≡ tally p xs + counts (λ (z : IdBytes × ℕ). p (ranked_entry z)) e v)
+    → ((p : Entry → Bool) → tally p zs + counts (λ (z : IdBytes × ℕ). p (ranked_entry z)) e (rank_of xs e) ≡ tally p xs + counts
+    (λ (z : IdBytes × ℕ). p (ranked_entry z)) e v)
     → AreRanked ys × (rank_map ys ≡ set (rank_map xs) e v)
 sorted_set xs zs ys e v ranked moved up change =
     let m = rank_map xs in
     let is : ys ≡ in_order entry_cmp zs = sorted_is entry_order zs ys moved up in
     now_ranked ys (set m e v)
-    (holds_set xs ys m e v (holds xs m ranked) (λ p. ap (λ n. n + counts (λ (z : IdBytes × ℕ). p (ranked_entry z)) e (get m e)) (tally_permuted p zs ys moved) ∙ ap (λ o. tally p zs + counts (λ (z : IdBytes × ℕ). p (ranked_entry z)) e o) (get-ranks xs e) ∙ change p))
+    (holds_set xs ys m e v (holds xs m ranked)
+    (λ p. ap (λ n. n + counts (λ (z : IdBytes × ℕ). p (ranked_entry z)) e (get m e)) (tally_permuted p zs ys moved)
+    ∙ ap (λ o. tally p zs + counts (λ (z : IdBytes × ℕ). p (ranked_entry z)) e o) (get-ranks xs e) ∙ change p))
     (subst (Rises entry_cmp) (sym is) (rises-in_order entry_order zs))
 
 -- ---- lengths
@@ -164,7 +175,8 @@ length_ranked m =
 
 -- no entry
 pub none_ranked : AreRanked []
-none_ranked = listed [] (rank_map []) (λ p. sym (count_none id_order _ (rank_map []) (λ q v at. absurd (some_none (get (rank_map []) q) v at (get-ranks [] q))))) tt
+none_ranked = listed [] (rank_map [])
+    (λ p. sym (count_none id_order _ (rank_map []) (λ q v at. absurd (some_none (get (rank_map []) q) v at (get-ranks [] q))))) tt
 
 -- the list of a map
 pub listed_is : (xs : List Entry) (m : Ranks) → xs ≡ entries_by_rank m → AreRanked xs × (rank_map xs ≡ m)

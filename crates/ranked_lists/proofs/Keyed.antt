@@ -69,7 +69,8 @@ module _ {X : Type 0} {cmp : X → X → Ordering} (o : IsKeyOrder cmp) where
         | Greater ↦ λ _. later (cond (p y) 1 0) (cond (p x) 1 0) _ _ (tally-insert p ys x (or_right (is_at (cmp x) y) _ none))
       ] refl
 
-  pub tally-remove_key : (p : X → Bool) (xs : List X) (x : X) → list_any (is_at (cmp x)) xs ≡ true → tally p (remove_key (is_at (cmp x)) xs) + cond (p x) 1 0 ≡ tally p xs
+  pub tally-remove_key : (p : X → Bool) (xs : List X) (x : X) → list_any (is_at (cmp x)) xs ≡ true
+      → tally p (remove_key (is_at (cmp x)) xs) + cond (p x) 1 0 ≡ tally p xs
   tally-remove_key p [] x some = cc
   tally-remove_key p (y ∷ ys) x some =
       elim (is_at (cmp x) y) as (λ b. is_at (cmp x) y ≡ b → tally p (cond b ys (y ∷ remove_key (is_at (cmp x)) ys)) + cond (p x) 1 0 ≡ tally p (y ∷ ys)) [
@@ -81,7 +82,9 @@ module _ {X : Type 0} {cmp : X → X → Ordering} (o : IsKeyOrder cmp) where
 
   any_none : (x : X) (xs : List X) → list_any (is_at (cmp x)) xs ≡ false → tally (is_at (cmp x)) xs ≡ 0
   any_none x [] none = refl
-  any_none x (y ∷ ys) none = ap (λ b. cond b 1 0 + tally (is_at (cmp x)) ys) (or_left (is_at (cmp x) y) _ none) ∙ ap (λ n. 0 + n) (any_none x ys (or_right (is_at (cmp x) y) _ none))
+  any_none x (y ∷ ys) none =
+      ap (λ b. cond b 1 0 + tally (is_at (cmp x)) ys) (or_left (is_at (cmp x) y) _ none)
+      ∙ ap (λ n. 0 + n) (any_none x ys (or_right (is_at (cmp x) y) _ none))
 
   any_some : (x : X) (xs : List X) → tally (is_at (cmp x)) xs ≡ 0 → list_any (is_at (cmp x)) xs ≡ false
   any_some x [] none = refl
@@ -98,11 +101,14 @@ module _ (ks : List Entry) (m : Ranks) (h : Holds ks m) (e : IdBytes) (r : ℕ) 
       elim (list_any (is_at (entry_cmp (entry_with e r))) ks) as (λ b. list_any (is_at (entry_cmp (entry_with e r))) ks ≡ b → b ≡ true) [
         | true ↦ λ _. refl
         | false ↦ λ none. absurd (true_false (is_at (entry_cmp (entry_with e r)) (entry_with e r)) (own_key entry_order (entry_with e r))
-            (none_counted id_order (λ (z : IdBytes × ℕ). is_at (entry_cmp (entry_with e r)) (ranked_entry z)) m (sym (h (is_at (entry_cmp (entry_with e r)))) ∙ any_none entry_order (entry_with e r) ks none) e r is))
+            (none_counted id_order (λ (z : IdBytes × ℕ). is_at (entry_cmp (entry_with e r)) (ranked_entry z)) m
+            (sym (h (is_at (entry_cmp (entry_with e r)))) ∙ any_none entry_order (entry_with e r) ks none) e r is))
       ] refl
 
   pub not_in : (get m e ≡ Some r → ⊥) → list_any (is_at (entry_cmp (entry_with e r))) ks ≡ false
-  not_in other = any_some entry_order (entry_with e r) ks (h (is_at (entry_cmp (entry_with e r))) ∙ count_none id_order _ m (λ k v at. not_so (is_at (entry_cmp (entry_with e r)) (ranked_entry (k, v))) (λ one.
+  not_in other = any_some entry_order (entry_with e r) ks
+      (h (is_at (entry_cmp (entry_with e r)))
+      ∙ count_none id_order _ m (λ k v at. not_so (is_at (entry_cmp (entry_with e r)) (ranked_entry (k, v))) (λ one.
       let same : entry_with e r ≡ ranked_entry (k, v) = same_key entry_order (entry_with e r) (ranked_entry (k, v)) one in
       let id : e ≡ k = ap (λ (x : Entry). x.id) same in
       let rank : r ≡ v = ap (λ (x : Entry). x.rank) same in
@@ -132,25 +138,34 @@ module _ (ks : List Entry) (ranked : AreRanked ks) (e : IdBytes) where
   all_held = holds ks was ranked
 
   -- a new element
-  pub set_came : (ns : List Entry) (r : ℕ) → get was e ≡ None → ns ≡ insert_key entry_cmp ks (entry_with e r) → IsStrictlySortedBy entry_cmp ns → After ns (Some r)
+  pub set_came : (ns : List Entry) (r : ℕ) → get was e ≡ None → ns ≡ insert_key entry_cmp ks (entry_with e r) → IsStrictlySortedBy entry_cmp ns
+      → After ns (Some r)
   set_came ns r none is up =
       now_ranked ns (set was e (Some r))
-      (holds_set ks ns was e (Some r) all_held (λ p. came _ _ _ _ (ap (tally p) is ∙ tally-insert entry_order p ks (entry_with e r) (not_in ks was all_held e r (λ some. two_ways none some))) (ap (counts (λ (z : IdBytes × ℕ). p (ranked_entry z)) e) none)))
+      (holds_set ks ns was e (Some r) all_held
+      (λ p. came _ _ _ _ (ap (tally p) is
+      ∙ tally-insert entry_order p ks (entry_with e r) (not_in ks was all_held e r (λ some. two_ways none some)))
+      (ap (counts (λ (z : IdBytes × ℕ). p (ranked_entry z)) e) none)))
       (rises_strict entry_order ns up)
     where
       two_ways : {o : Option ℕ} → o ≡ None → o ≡ Some r → ⊥
       two_ways none some = cc
 
   -- an element that goes
-  pub set_went : (ns : List Entry) (r : ℕ) → get was e ≡ Some r → ns ≡ remove_key (is_at (entry_cmp (entry_with e r))) ks → IsStrictlySortedBy entry_cmp ns → After ns None
+  pub set_went : (ns : List Entry) (r : ℕ) → get was e ≡ Some r → ns ≡ remove_key (is_at (entry_cmp (entry_with e r))) ks
+      → IsStrictlySortedBy entry_cmp ns → After ns None
   set_went ns r some is up =
       now_ranked ns (set was e None)
-      (holds_set ks ns was e None all_held (λ p. ap (λ o. tally p ns + counts (λ (z : IdBytes × ℕ). p (ranked_entry z)) e o) some ∙ ap (λ l. tally p l + cond (p (entry_with e r)) 1 0) is ∙ went _ _ _ (tally-remove_key entry_order p ks (entry_with e r) (is_in ks was all_held e r some))))
+      (holds_set ks ns was e None all_held
+      (λ p. ap (λ o. tally p ns + counts (λ (z : IdBytes × ℕ). p (ranked_entry z)) e o) some
+      ∙ ap (λ l. tally p l + cond (p (entry_with e r)) 1 0) is
+      ∙ went _ _ _ (tally-remove_key entry_order p ks (entry_with e r) (is_in ks was all_held e r some))))
       (rises_strict entry_order ns up)
 
   -- an element that gets another rank: the new entry is put in, and the old one taken out
   pub set_moved : (os ns : List Entry) (old r : ℕ) → get was e ≡ Some old → (old ≡ r → ⊥) → os ≡ insert_key entry_cmp ks (entry_with e r)
-      → list_any (is_at (entry_cmp (entry_with e old))) os ≡ true → ns ≡ remove_key (is_at (entry_cmp (entry_with e old))) os → IsStrictlySortedBy entry_cmp ns → After ns (Some r)
+      → list_any (is_at (entry_cmp (entry_with e old))) os ≡ true → ns ≡ remove_key (is_at (entry_cmp (entry_with e old))) os
+      → IsStrictlySortedBy entry_cmp ns → After ns (Some r)
   set_moved os ns old r some differ put there is up =
       now_ranked ns (set was e (Some r))
       (holds_set ks ns was e (Some r) all_held (λ p.
@@ -171,11 +186,13 @@ module _ {Y : Type 0} where
   lookup-named (e ∷ es) q = ap (cond (text_eq q (string_bytes e.0)) (Some e.1)) (lookup-named es q)
 
   -- what a call found by the text t of the id
-  pub lookup-text : (es : List (String Y × Entry)) (q t : IdBytes) → t ≡ q → (o : Option Entry) → o ≡ lookup (λ k. bytes_eq t (string_bytes k)) es → lookup (text_eq q) (named es) ≡ o
+  pub lookup-text : (es : List (String Y × Entry)) (q t : IdBytes) → t ≡ q → (o : Option Entry) → o ≡ lookup (λ k. bytes_eq t (string_bytes k)) es
+      → lookup (text_eq q) (named es) ≡ o
   lookup-text es q t same o is = lookup-named es q ∙ ap (λ x. lookup (λ k. bytes_eq x (string_bytes k)) es) (sym same) ∙ sym is
 
   -- and what a call wrote by it
-  pub updates-text : {S : Type 0} (m n : HashMap (String Y) Entry S) (e t : IdBytes) → t ≡ e → (w : Option Entry) → UpdatesBy string_eq (λ k. bytes_eq t (string_bytes k)) m n w
+  pub updates-text : {S : Type 0} (m n : HashMap (String Y) Entry S) (e t : IdBytes) → t ≡ e → (w : Option Entry)
+      → UpdatesBy string_eq (λ k. bytes_eq t (string_bytes k)) m n w
       → (q : IdBytes) → lookup (text_eq q) (named n.entries) ≡ cond (text_eq e q) w (lookup (text_eq q) (named m.entries))
   updates-text m n e t same w h q =
       lookup-named n.entries q ∙ hash_map_updates_text t m n w h q
@@ -187,7 +204,8 @@ pub table_set : (es fs : List (IdBytes × Entry)) (m : Ranks) (e : IdBytes) (v :
     → ((q : IdBytes) → lookup (text_eq q) fs ≡ cond (text_eq e q) (option_map (entry_with e) v) (lookup (text_eq q) es)) → IsTableOf fs (set m e v)
 table_set es fs m e v table wrote q =
     wrote q
-    ∙ elim (text_eq e q) as (λ b. text_eq e q ≡ b → cond b (option_map (entry_with e) v) (lookup (text_eq q) es) ≡ option_map (entry_with q) (cond b v (get m q))) [
+    ∙ elim (text_eq e q) as (λ b. text_eq e q ≡ b
+    → cond b (option_map (entry_with e) v) (lookup (text_eq q) es) ≡ option_map (entry_with q) (cond b v (get m q))) [
       | true ↦ λ here. ap (λ k. option_map (entry_with k) v) (text_equality.exact e q here)
       | false ↦ λ _. table q
     ] refl
@@ -195,7 +213,8 @@ table_set es fs m e v table wrote q =
     ∙ ap (option_map (entry_with q)) (sym (get-set id_order m e v q))
 
 -- the rank that an entry of the table tells
-pub table_rank : (es : List (IdBytes × Entry)) (m : Ranks) → IsTableOf es m → (q : IdBytes) (o : Option Entry) → lookup (text_eq q) es ≡ o → option_map (λ (x : Entry). x.rank) o ≡ get m q
+pub table_rank : (es : List (IdBytes × Entry)) (m : Ranks) → IsTableOf es m → (q : IdBytes) (o : Option Entry) → lookup (text_eq q) es ≡ o
+    → option_map (λ (x : Entry). x.rank) o ≡ get m q
 table_rank es m table q o is = ap (option_map (λ (x : Entry). x.rank)) (sym is ∙ table q) ∙ back (get m q)
   where
     back : (r : Option ℕ) → option_map (λ (x : Entry). x.rank) (option_map (entry_with q) r) ≡ r
@@ -203,9 +222,11 @@ table_rank es m table q o is = ap (option_map (λ (x : Entry). x.rank)) (sym is 
     back (Some k) = refl
 
 -- the entry of the table of an element
-pub table_entry : (es : List (IdBytes × Entry)) (m : Ranks) → IsTableOf es m → (q : IdBytes) (x : Entry) → lookup (text_eq q) es ≡ Some x → (x ≡ entry_with q x.rank) × (get m q ≡ Some x.rank)
+pub table_entry : (es : List (IdBytes × Entry)) (m : Ranks) → IsTableOf es m → (q : IdBytes) (x : Entry) → lookup (text_eq q) es ≡ Some x
+    → (x ≡ entry_with q x.rank) × (get m q ≡ Some x.rank)
 table_entry es m table q x is = by (get m q) (sym is ∙ table q)
   where
     by : (r : Option ℕ) → Some x ≡ option_map (entry_with q) r → (x ≡ entry_with q x.rank) × (r ≡ Some x.rank)
     by None h = cc
-    by (Some k) h = let same : x ≡ entry_with q k = cc in (same ∙ ap (λ (y : Entry). entry_with q y.rank) (sym same), ap Some (ap (λ (y : Entry). y.rank) (sym same)))
+    by (Some k) h = let same : x ≡ entry_with q k = cc
+        in (same ∙ ap (λ (y : Entry). entry_with q y.rank) (sym same), ap Some (ap (λ (y : Entry). y.rank) (sym same)))

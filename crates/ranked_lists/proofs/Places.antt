@@ -34,7 +34,8 @@ module _ {X : Type 0} where
   index_is (y ∷ ys) (suc i) d x is = index_is ys i d x is
 
   -- another item in the place of one
-  pub tally-slice_set : (p : X → Bool) (xs : List X) (i : ℕ) (x y : X) → slice_get xs i ≡ Some x → tally p (slice_set xs i y) + cond (p x) 1 0 ≡ tally p xs + cond (p y) 1 0
+  pub tally-slice_set : (p : X → Bool) (xs : List X) (i : ℕ) (x y : X) → slice_get xs i ≡ Some x
+      → tally p (slice_set xs i y) + cond (p x) 1 0 ≡ tally p xs + cond (p y) 1 0
   tally-slice_set p [] i x y is = cc
   tally-slice_set p (z ∷ zs) zero x y is = let same : z ≡ x = cc in ap (λ w. (cond (p y) 1 0 + tally p zs) + cond (p w) 1 0) (sym same) ∙ omega arith
   tally-slice_set p (z ∷ zs) (suc i) x y is = let rest = tally-slice_set p zs i x y is in omega (arith, rest)
@@ -73,7 +74,8 @@ module _ {X : Type 0} where
   -- the item at the place that was found
   pub position_some : (p : X → Bool) (xs : List X) (i : ℕ) → position p xs ≡ Some i → (x : X) × (slice_get xs i ≡ Some x) × (p x ≡ true) × (find p xs ≡ Some x)
   position_some p xs i is =
-      elim (nat_lt (position_or_len p xs) (length xs)) as (λ b. nat_lt (position_or_len p xs) (length xs) ≡ b → cond b (Some (position_or_len p xs)) None ≡ Some i → (x : X) × (slice_get xs i ≡ Some x) × (p x ≡ true) × (find p xs ≡ Some x)) [
+      elim (nat_lt (position_or_len p xs) (length xs)) as (λ b. nat_lt (position_or_len p xs) (length xs) ≡ b
+      → cond b (Some (position_or_len p xs)) None ≡ Some i → (x : X) × (slice_get xs i ≡ Some x) × (p x ≡ true) × (find p xs ≡ Some x)) [
         | true ↦ λ less at.
             let same : position_or_len p xs ≡ i = cc in
             let x = some_at xs i (subst (λ n. n < length xs) same (below _ _ less)) in
@@ -84,7 +86,8 @@ module _ {X : Type 0} where
 
   pub position_none : (p : X → Bool) (xs : List X) → position p xs ≡ None → find p xs ≡ None
   position_none p xs is =
-      elim (nat_lt (position_or_len p xs) (length xs)) as (λ b. nat_lt (position_or_len p xs) (length xs) ≡ b → cond b (Some (position_or_len p xs)) None ≡ None → find p xs ≡ None) [
+      elim (nat_lt (position_or_len p xs) (length xs)) as (λ b. nat_lt (position_or_len p xs) (length xs) ≡ b
+      → cond b (Some (position_or_len p xs)) None ≡ None → find p xs ≡ None) [
         | true ↦ λ _ at. cc
         | false ↦ λ more at. find_at p xs ∙ past_end xs (position_or_len p xs) (not_below _ _ more)
       ] refl is
@@ -93,12 +96,14 @@ module _ {X : Type 0} where
 rank_found : (xs : List Entry) (e : IdBytes) → rank_of xs e ≡ option_map (λ (x : Entry). x.rank) (find (λ (x : Entry). text_eq x.id e) xs)
 rank_found [] e = refl
 rank_found (x ∷ xs) e =
-    elim (text_eq x.id e) as (λ b. cond b (Some x.rank) (rank_of xs e) ≡ option_map (λ (y : Entry). y.rank) (cond b (Some x) (find (λ (y : Entry). text_eq y.id e) xs))) [
+    elim (text_eq x.id e) as (λ b.
+    cond b (Some x.rank) (rank_of xs e) ≡ option_map (λ (y : Entry). y.rank) (cond b (Some x) (find (λ (y : Entry). text_eq y.id e) xs))) [
       | true ↦ refl
       | false ↦ rank_found xs e
     ]
 
-pub place_some : (xs : List Entry) (e : IdBytes) (i : ℕ) → position (λ (x : Entry). text_eq x.id e) xs ≡ Some i → (x : Entry) × (slice_get xs i ≡ Some x) × (x.id ≡ e) × (rank_of xs e ≡ Some x.rank)
+pub place_some : (xs : List Entry) (e : IdBytes) (i : ℕ) → position (λ (x : Entry). text_eq x.id e) xs ≡ Some i
+    → (x : Entry) × (slice_get xs i ≡ Some x) × (x.id ≡ e) × (rank_of xs e ≡ Some x.rank)
 place_some xs e i is =
     let at = position_some (λ (x : Entry). text_eq x.id e) xs i is in
     (at.0, at.1, text_equality.exact at.0.id e at.2, rank_found xs e ∙ ap (option_map (λ (x : Entry). x.rank)) at.3)

@@ -82,13 +82,17 @@ put_all xs = set_all empty (puts (map pair_of xs))
 pub put_all_more : (xs : List Entry) (x : Entry) → put_all (xs ++ x ∷ []) ≡ set (put_all xs) x.id (Some x.rank)
 put_all_more xs x = ap (λ es. set_all empty (puts es)) (map_more pair_of xs x) ∙ set_all_more empty (map pair_of xs) (pair_of x)
 
-get_put : (m n : Ranks) (q : IdBytes) (xs : List Entry) → AllByRecursion (λ (x : Entry). get m x.id ≡ Some x.rank) xs → get (set_all n (puts (map pair_of xs))) q ≡ cond (is_some (rank_of xs q)) (get m q) (get n q)
+get_put : (m n : Ranks) (q : IdBytes) (xs : List Entry) → AllByRecursion (λ (x : Entry). get m x.id ≡ Some x.rank) xs
+    → get (set_all n (puts (map pair_of xs))) q ≡ cond (is_some (rank_of xs q)) (get m q) (get n q)
 get_put m n q [] all = refl
 get_put m n q (x ∷ xs) all =
     get_put m (set n x.id (Some x.rank)) q xs all.1
     ∙ ap (cond (is_some (rank_of xs q)) (get m q)) (get-set id_order n x.id (Some x.rank) q ∙ ap (λ b. cond b (Some x.rank) (get n q)) (sym (same_id q x.id)))
-    ∙ elim (text_eq x.id q) as (λ b. text_eq x.id q ≡ b → cond (is_some (rank_of xs q)) (get m q) (cond b (Some x.rank) (get n q)) ≡ cond (is_some (cond b (Some x.rank) (rank_of xs q))) (get m q) (get n q)) [
-      | true ↦ λ here. either (is_some (rank_of xs q)) (get m q) (Some x.rank) (sym (subst (λ z. get m z ≡ Some x.rank) (text_equality.exact x.id q here) all.0))
+    ∙ elim (text_eq x.id q) as (λ b. text_eq x.id q ≡ b
+    → cond (is_some (rank_of xs q)) (get m q) (cond b (Some x.rank) (get n q)) ≡ cond (is_some (cond b (Some x.rank) (rank_of xs q))) (get m q)
+    (get n q)) [
+      | true ↦ λ here. either (is_some (rank_of xs q)) (get m q) (Some x.rank)
+          (sym (subst (λ z. get m z ≡ Some x.rank) (text_equality.exact x.id q here) all.0))
       | false ↦ λ _. refl
     ] refl
   where

@@ -17,7 +17,8 @@ first flag flags = sum_by-cons (λ flag. cond flag 1 0) flag flags
 none_set : (flags : List Bool) → ((at : ℕ) → get_or flags at false ≡ true → ⊥) → set_in flags ≡ 0
 none_set [] none = refl
 none_set (true ∷ flags) none = absurd (none 0 refl)
-none_set (false ∷ flags) none = let rest = none_set flags (λ at. none (suc at)) in let same : set_in (false ∷ flags) ≡ 0 + set_in flags = first false flags in omega (arith, same, rest)
+none_set (false ∷ flags) none = let rest = none_set flags (λ at. none (suc at))
+    in let same : set_in (false ∷ flags) ≡ 0 + set_in flags = first false flags in omega (arith, same, rest)
 
 first_goes : (m n k : ℕ) → m ≡ 1 + n → k ≡ 0 + n → m ≤ k + 1
 first_goes m n k before after = omega (arith, before, after)
@@ -32,7 +33,9 @@ less_one : (flags : List Bool) (i : ℕ) → set_in flags ≤ set_in (set flags 
 less_one [] i = omega arith
 less_one (true ∷ flags) zero = first_goes (set_in (true ∷ flags)) (set_in flags) (set_in (false ∷ flags)) (first true flags) (first false flags)
 less_one (false ∷ flags) zero = none_goes (set_in (false ∷ flags)) (set_in flags) (set_in (false ∷ flags)) (first false flags) (first false flags)
-less_one (flag ∷ flags) (suc i) = later_goes (cond flag 1 0) (set_in flags) (set_in (set flags i false)) (set_in (flag ∷ flags)) (set_in (flag ∷ set flags i false)) (first flag flags) (first flag (set flags i false)) (less_one flags i)
+less_one (flag ∷ flags) (suc i) =
+    later_goes (cond flag 1 0) (set_in flags) (set_in (set flags i false)) (set_in (flag ∷ flags)) (set_in (flag ∷ set flags i false))
+    (first flag flags) (first flag (set flags i false)) (less_one flags i)
 
 others : (flags : List Bool) (i at : ℕ) → get_or (set flags i false) at false ≡ true → (at ≢ i) × (get_or flags at false ≡ true)
 others [] i at is = let clash : false ≡ true = is in absurd cc

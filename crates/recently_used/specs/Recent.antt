@@ -12,4 +12,5 @@ used number numbers = filter (λ n. not (nat_eq n number)) numbers ++ number ∷
 
 -- no more flags of a list are set than there are numbers, where the place of each that is set is among the numbers
 abbrev pub NoMorePlaces : Type 0
-NoMorePlaces = (numbers : List ℕ) (flags : List Bool) → ((at : ℕ) → get_or flags at false ≡ true → Contains numbers at) → count_by (λ flag. flag) flags ≤ length numbers
+NoMorePlaces = (numbers : List ℕ) (flags : List Bool) → ((at : ℕ) → get_or flags at false ≡ true → Contains numbers at)
+    → count_by (λ flag. flag) flags ≤ length numbers

@@ -25,7 +25,8 @@ use Rattle.edits.specs.Recording.{recorded}
 abbrev pub found : Meta → State → IdBytes → List ℕ → Edit → Result Recorded EditFault
 found meta m id feature edit = recording_of meta m (of_feature meta (feature_at meta (class_at m id) feature) (effect_on (value_of meta) meta m id edit))
 
-of_same : (meta : Meta) (o : Result ℕ EditFault) (first second : ℕ → Kind → Result Effect EditFault) → ((f : ℕ) (kind : Kind) → first f kind ≡ second f kind) → of_feature meta o first ≡ of_feature meta o second
+of_same : (meta : Meta) (o : Result ℕ EditFault) (first second : ℕ → Kind → Result Effect EditFault)
+    → ((f : ℕ) (kind : Kind) → first f kind ≡ second f kind) → of_feature meta o first ≡ of_feature meta o second
 of_same meta (Err fault) first second same = refl
 of_same meta (Ok f) first second same = same f (kind_of meta f)
 
@@ -50,7 +51,8 @@ module _ (meta : Meta) (m : State) (ws : ℕ) (id : IdBytes) (feature : List ℕ
   unfolding recorded_of effect_of effect_on
   found_shift from to = ap (recording_of meta m) (of_same meta (feature_at meta (class_at m id) feature) _ _ (λ f kind. refl))
 
-  pub found_link : (target : List ℕ) (index : Option ℕ) → found meta m id feature (Link id feature target index) ≡ recorded meta m ws (Link id feature target index)
+  pub found_link : (target : List ℕ) (index : Option ℕ)
+      → found meta m id feature (Link id feature target index) ≡ recorded meta m ws (Link id feature target index)
   unfolding recorded_of effect_of effect_on
   found_link target index = ap (recording_of meta m) (of_same meta (feature_at meta (class_at m id) feature) _ _ (λ f kind. refl))
 
@@ -58,22 +60,28 @@ module _ (meta : Meta) (m : State) (ws : ℕ) (id : IdBytes) (feature : List ℕ
   unfolding recorded_of effect_of effect_on
   found_unlink target = ap (recording_of meta m) (of_same meta (feature_at meta (class_at m id) feature) _ _ (λ f kind. refl))
 
-  pub found_reorder : (target : List ℕ) (index : ℕ) → found meta m id feature (Reorder id feature target index) ≡ recorded meta m ws (Reorder id feature target index)
+  pub found_reorder : (target : List ℕ) (index : ℕ)
+      → found meta m id feature (Reorder id feature target index) ≡ recorded meta m ws (Reorder id feature target index)
   unfolding recorded_of effect_of effect_on
   found_reorder target index = ap (recording_of meta m) (of_same meta (feature_at meta (class_at m id) feature) _ _ (λ f kind. refl))
 
   -- so an answer by the effect on the feature is that of the edit
-  pub answers_found : (given edit : Edit) (answer : Result Recorded EditFault) → given ≡ edit → found meta m id feature edit ≡ recorded meta m ws edit → Answers answer (found meta m id feature given) → Answers answer (recorded meta m ws given)
+  pub answers_found : (given edit : Edit) (answer : Result Recorded EditFault) → given ≡ edit → found meta m id feature edit ≡ recorded meta m ws edit
+      → Answers answer (found meta m id feature given) → Answers answer (recorded meta m ws given)
   answers_found given edit answer is same h =
-      subst (λ (due : Result Recorded EditFault). Answers answer due) (ap (λ (e : Edit). found meta m id feature e) is ∙ same ∙ ap (λ (e : Edit). recorded meta m ws e) (sym is)) h
+      subst (λ (due : Result Recorded EditFault). Answers answer due)
+      (ap (λ (e : Edit). found meta m id feature e) is ∙ same ∙ ap (λ (e : Edit). recorded meta m ws e) (sym is)) h
 
 -- ---- a new element
-refused_by : (form live : Bool) (id : IdBytes) (effect : Effect) (fault : EditFault) → ◌≡◌ {A = Result IdBytes EditFault} (if not form then Err BadId else if live then Err IdInUse else Ok id) (Err fault) → ◌≡◌ {A = Result Effect EditFault} (if not form then Err BadId else if live then Err IdInUse else Ok effect) (Err fault)
+refused_by : (form live : Bool) (id : IdBytes) (effect : Effect) (fault : EditFault)
+    → ◌≡◌ {A = Result IdBytes EditFault} (if not form then Err BadId else if live then Err IdInUse else Ok id) (Err fault)
+    → ◌≡◌ {A = Result Effect EditFault} (if not form then Err BadId else if live then Err IdInUse else Ok effect) (Err fault)
 refused_by true true id effect fault h = cc
 refused_by true false id effect fault h = cc
 refused_by false live id effect fault h = cc
 
 -- where the id isn't of the form or is taken, that is why there is no new element
-pub new_refused : (m : State) (class : ℕ) (place : Place) (id : IdBytes) (fault : EditFault) → (fault ≡ Memory) ⊎ (unused m id ≡ Err fault) → (fault ≡ Memory) ⊎ (new_effect m class place id ≡ Err fault)
+pub new_refused : (m : State) (class : ℕ) (place : Place) (id : IdBytes) (fault : EditFault) → (fault ≡ Memory) ⊎ (unused m id ≡ Err fault)
+    → (fault ≡ Memory) ⊎ (new_effect m class place id ≡ Err fault)
 new_refused m class place id fault (inl full) = inl full
 new_refused m class place id fault (inr h) = inr (refused_by (is_id id) (is_live m id) id (Creates id class place) fault h)

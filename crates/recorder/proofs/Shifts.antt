@@ -41,7 +41,8 @@ put_before (v ∷ vs) (suc n) w is =
 same_head : (v : Value) (xs ys : List Value) → list_eq value_eq (v ∷ xs) (v ∷ ys) ≡ list_eq value_eq xs ys
 same_head v xs ys = ap (λ b. b && list_eq value_eq xs ys) (value_equality.own v)
 
-moved_on : (vs : List Value) (from to n : ℕ) (w : Value) → slice_get vs from ≡ Some w → to ≡ from + n → list_eq value_eq (insert (remove vs from) to w) vs ≡ list_all (value_eq w) (take n (drop (suc from) vs))
+moved_on : (vs : List Value) (from to n : ℕ) (w : Value) → slice_get vs from ≡ Some w → to ≡ from + n
+    → list_eq value_eq (insert (remove vs from) to w) vs ≡ list_all (value_eq w) (take n (drop (suc from) vs))
 moved_on [] from to n w is far = cc
 moved_on (v ∷ vs) zero to n w is far =
     let here : v ≡ w = some_same v w is in
@@ -50,7 +51,8 @@ moved_on (v ∷ vs) zero to n w is far =
 moved_on (v ∷ vs) (suc i) zero n w is far = absurd (omega (arith, far))
 moved_on (v ∷ vs) (suc i) (suc j) n w is far = same_head v (insert (remove vs i) j w) vs ∙ moved_on vs i j n w is (omega (arith, far))
 
-moved_back : (vs : List Value) (from to n : ℕ) (w : Value) → slice_get vs from ≡ Some w → from ≡ to + n → list_eq value_eq (insert (remove vs from) to w) vs ≡ list_all (value_eq w) (take n (drop to vs))
+moved_back : (vs : List Value) (from to n : ℕ) (w : Value) → slice_get vs from ≡ Some w → from ≡ to + n
+    → list_eq value_eq (insert (remove vs from) to w) vs ≡ list_all (value_eq w) (take n (drop to vs))
 moved_back vs from zero n w is far =
     let long : from ≡ n = omega (arith, far) in
     put_before vs from w is ∙ ap (λ k. list_all (value_eq w) (take k vs)) long
@@ -62,7 +64,8 @@ shifted_is : (vs : List Value) (from to : ℕ) (w : Value) → slice_get vs from
 shifted_is vs from to w is = ap (λ (o : Option Value). elim o [ None ↦ vs | Some v ↦ insert (remove vs from) to v ]) is
 
 -- the value at one place stands at a later one, or at an earlier one
-pub stays_on : (vs : List Value) (from to : ℕ) (w : Value) → slice_get vs from ≡ Some w → from ≤ to → list_eq value_eq (shifted vs from to) vs ≡ list_all (value_eq w) (take (to + 1 - (from + 1)) (drop (from + 1) vs))
+pub stays_on : (vs : List Value) (from to : ℕ) (w : Value) → slice_get vs from ≡ Some w → from ≤ to
+    → list_eq value_eq (shifted vs from to) vs ≡ list_all (value_eq w) (take (to + 1 - (from + 1)) (drop (from + 1) vs))
 stays_on vs from to w is le =
     let n = to + 1 - (from + 1) in
     ap (λ l. list_eq value_eq l vs) (shifted_is vs from to w is)
@@ -72,7 +75,8 @@ stays_on vs from to w is le =
     more : (k : ℕ) → suc k ≡ k + 1
     more k = omega arith
 
-pub stays_back : (vs : List Value) (from to : ℕ) (w : Value) → slice_get vs from ≡ Some w → to ≤ from → list_eq value_eq (shifted vs from to) vs ≡ list_all (value_eq w) (take (from - to) (drop to vs))
+pub stays_back : (vs : List Value) (from to : ℕ) (w : Value) → slice_get vs from ≡ Some w → to ≤ from
+    → list_eq value_eq (shifted vs from to) vs ≡ list_all (value_eq w) (take (from - to) (drop to vs))
 stays_back vs from to w is le =
     ap (λ l. list_eq value_eq l vs) (shifted_is vs from to w is)
     ∙ moved_back vs from to (from - to) w is (omega arith)

@@ -1,5 +1,6 @@
 -- The command that an event is made again by is answered with just that event, where the event could be made and the store has room.
-use Rattle.std.proofs.Common.{◌≡◌, ℕ, zero, suc, ◌+◌, ◌^◌, ◌<◌, ◌≤◌, ◌&&◌, ◌||◌, not, List, [], ◌∷◌, length, nat_lt, nat_le, nat_eq, Bool, true, false, Option, None, Some, is_none, is_some, cond, Result, Ok, Err, refl, sym, ap, subst, arith, if◌then◌else◌}
+use Rattle.std.proofs.Common.{◌≡◌, ℕ, zero, suc, ◌+◌, ◌^◌, ◌<◌, ◌≤◌, ◌&&◌, ◌||◌, not, List, [], ◌∷◌, length, nat_lt, nat_le, nat_eq, Bool, true}
+use Rattle.std.proofs.Common.{false, Option, None, Some, is_none, is_some, cond, Result, Ok, Err, refl, sym, ap, subst, arith, if◌then◌else◌}
 use Rattle.std.specs.Prelude.{slice_get, unwrap_or, is_ok}
 use Rattle.std.specs.Fmt.{decimal}
 use Rattle.std.specs.Option.{option_map_or}
@@ -23,7 +24,8 @@ use Rattle.history_tree.specs.declared.version.Version.{Version}
 use Rattle.history_tree.specs.History.{head}
 use Rattle.history_tree.specs.Found.{branch_name, has_tag, on_its_branch}
 use Rattle.op_form.specs.declared.event.Event.{Event}
-use Rattle.op_form.specs.declared.event.Event.TheVariants.{Init, Checkout, Edit, Begin, End, Undo, Discard, Tidy, Commit, Branch, Tag, Update, Merge, Drop, Evolve, Upgrade, Signed}
+use Rattle.op_form.specs.declared.event.Event.TheVariants.{Init, Checkout, Edit, Begin, End, Undo, Discard, Tidy, Commit, Branch, Tag, Update, Merge}
+use Rattle.op_form.specs.declared.event.Event.TheVariants.{Drop, Evolve, Upgrade, Signed}
 use Rattle.op_form.specs.Events.{event_encoding}
 use Rattle.op_form.specs.Formed.{is_event}
 use Rattle.script_lang.specs.declared.command.Spec.TheVariants as specs
@@ -31,14 +33,16 @@ use Rattle.plain_repository.specs.State.{State, Workspace, model_of, is_open, is
 use Rattle.plain_repository.specs.Answers.{Decision, most_events, with_room, accepted, is_refusal}
 use Rattle.plain_repository.specs.Metamodels.{with_metamodel, extension_of, extended, evolve_read}
 use Rattle.plain_repository.specs.Checkouts.{decide_checkout, checkout_of, can_check_out, drop_of}
-use Rattle.plain_repository.specs.Commits.{version_made, commit_of, signed_of, decide_upgrade, can_commit, branch_of, is_new_branch, decide_tag, tag_of, can_tag}
+use Rattle.plain_repository.specs.Commits.{version_made, commit_of, signed_of, decide_upgrade, can_commit, branch_of, is_new_branch, decide_tag}
+use Rattle.plain_repository.specs.Commits.{tag_of, can_tag}
 use Rattle.plain_repository.specs.Composites.{begun, ended}
 use Rattle.plain_repository.specs.Local.{undone, can_undo, discarded, can_discard}
 use Rattle.plain_repository.specs.Tidying.{tidy_of, can_tidy}
 use Rattle.plain_repository.specs.Edits.{takes, can_follow}
 use Rattle.plain_repository.specs.Applying.{applied, load_package}
 use Rattle.plain_repository.specs.Choices.{chosen}
-use Rattle.plain_repository.specs.Merging.{update_buckets, update_in, update_to, can_update, merge_buckets, merge_in, merge_of, can_merge, is_other_branch, has_theirs}
+use Rattle.plain_repository.specs.Merging.{update_buckets, update_in, update_to, can_update, merge_buckets, merge_in, merge_of, can_merge}
+use Rattle.plain_repository.specs.Merging.{is_other_branch, has_theirs}
 use Rattle.plain_repository.specs.Orderly.{HasNames}
 use Rattle.plain_repository.proofs.Encodings.{and_left, and_right, not_so}
 use Rattle.plain_repository.proofs.Names.{branch_found}

@@ -29,4 +29,5 @@ known s m e could = refl
 
 pub nothing_is_unknown : NothingIsUnknown
 unfolding playable
-nothing_is_unknown s e could = known s s.meta e (and_right (nat_lt s.events most_events && fits_record e && suits s.upgraded e) (playable_with s s.meta e) could)
+nothing_is_unknown s e could =
+    known s s.meta e (and_right (nat_lt s.events most_events && fits_record e && suits s.upgraded e) (playable_with s s.meta e) could)

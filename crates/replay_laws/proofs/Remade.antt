@@ -1,5 +1,6 @@
 -- Each event that could be made and can be printed is made again by its item, where the store has room: one line an event.
-use Rattle.std.proofs.Common.{◌≡◌, ℕ, zero, suc, ◌+◌, ◌^◌, ◌<◌, ◌≤◌, ◌&&◌, ◌||◌, not, List, [], ◌∷◌, length, nat_lt, nat_le, nat_eq, Bool, true, false, Option, None, Some, is_some, refl, sym, subst, arith, codes}
+use Rattle.std.proofs.Common.{◌≡◌, ℕ, zero, suc, ◌+◌, ◌^◌, ◌<◌, ◌≤◌, ◌&&◌, ◌||◌, not, List, [], ◌∷◌, length, nat_lt, nat_le, nat_eq, Bool, true}
+use Rattle.std.proofs.Common.{false, Option, None, Some, is_some, refl, sym, subst, arith, codes}
 use Rattle.std.specs.List.{AllByRecursion, list_all}
 use Rattle.std.specs.Fmt.{decimal}
 use Rattle.std.specs.Prelude.{IsTrue}
@@ -16,7 +17,8 @@ use Rattle.history_tree.specs.History.{History, head}
 use Rattle.history_tree.specs.Found.{branch_name, has_tag}
 use Rattle.merge_laws.specs.Choices.{are_choices, is_choice}
 use Rattle.op_form.specs.declared.event.Event.{Event}
-use Rattle.op_form.specs.declared.event.Event.TheVariants.{Init, Checkout, Edit, Begin, End, Undo, Discard, Tidy, Commit, Branch, Tag, Update, Merge, Drop, Evolve, Upgrade, Signed}
+use Rattle.op_form.specs.declared.event.Event.TheVariants.{Init, Checkout, Edit, Begin, End, Undo, Discard, Tidy, Commit, Branch, Tag, Update, Merge}
+use Rattle.op_form.specs.declared.event.Event.TheVariants.{Drop, Evolve, Upgrade, Signed}
 use Rattle.op_form.specs.Formed.{IsPackage, is_event, is_package, is_u32}
 use Rattle.op_form.specs.Events.{event_encoding}
 use Rattle.op_form.specs.Packages.{package_encoding}
@@ -50,7 +52,9 @@ use Rattle.plain_repository.specs.Applying.{decide_load, load_in}
 use Rattle.replay_script.specs.Lines.{is_of_branch, place_word, words_again, item_again}
 use Rattle.replay_script.specs.Printable.{is_too_long, is_not_printable}
 use Rattle.replay_laws.proofs.Quiet.{IsQuiet, quiet_number, quiet_name, quiet_letters, letters_word, quiet_line, quiet_moment, message_line}
-use Rattle.replay_laws.proofs.Deciding.{Makes, HasRoom, init_makes, evolve_makes, number_makes, head_makes, drop_makes, begin_makes, end_makes, undo_makes, discard_makes, tidy_makes, commit_makes, signed_makes, upgrade_makes, branch_makes, tag_makes, update_makes, merge_makes, load_makes}
+use Rattle.replay_laws.proofs.Deciding.{Makes, HasRoom, init_makes, evolve_makes, number_makes, head_makes, drop_makes, begin_makes, end_makes}
+use Rattle.replay_laws.proofs.Deciding.{undo_makes, discard_makes, tidy_makes, commit_makes, signed_makes, upgrade_makes, branch_makes, tag_makes}
+use Rattle.replay_laws.proofs.Deciding.{update_makes, merge_makes, load_makes}
 use Rattle.replay_laws.specs.Remaking.{Remakes, EventsAreMadeAgain}
 use Rattle.replay_laws.proofs.Standing.{remade, remade_with}
 
@@ -263,7 +267,8 @@ module _ (s : State) (meta : Meta) (begun : s.meta ≡ Some meta) (named : HasNa
       (workspace s ws (can_commit s.history) refl could small, omega arith) refl
       (by_meta (commands.Commit ws (Some (b ∷ bs))) (Commit ws (b ∷ bs)) (commit_makes s ws (b ∷ bs) (workspace_of s ws) room old could))
 
-  signed_again : (ws : ℕ) (author : List ℕ) (moment : ℕ) (message : List ℕ) → s.upgraded ≡ true → (is_name author && can_commit s.history (workspace_of s ws)) ≡ true
+  signed_again : (ws : ℕ) (author : List ℕ) (moment : ℕ) (message : List ℕ) → s.upgraded ≡ true
+      → (is_name author && can_commit s.history (workspace_of s ws)) ≡ true
       → ws < 2 ^ 32 → moment < 2 ^ 64 → IsUtf8 message
       → is_not_printable s.history (Signed ws author moment message) ≡ false → HasRoom s (Signed ws author moment message)
       → Remakes s (item_again s.history (Signed ws author moment message)) (Signed ws author moment message)
@@ -386,7 +391,8 @@ module _ (s : State) (meta : Meta) (begun : s.meta ≡ Some meta) (named : HasNa
       few_bytes n few = grind (arith, few)
 
   -- each event, where there is a metamodel
-  begun_again : (e : Event) → is_event e ≡ true → suits s.upgraded e ≡ true → playable_with s (Some meta) e ≡ true → is_too_long e ≡ false → is_not_printable s.history e ≡ false
+  begun_again : (e : Event) → is_event e ≡ true → suits s.upgraded e ≡ true → playable_with s (Some meta) e ≡ true → is_too_long e ≡ false
+      → is_not_printable s.history e ≡ false
       → HasRoom s e → Remakes s (item_again s.history e) e
   unfolding is_event
   begun_again (Init text) formed suited could few print room = absurd cc
@@ -428,7 +434,8 @@ init_again s text none could utf8 print room =
     (subst (λ (m : Option Meta). Makes (decide_with s m (Some text) commands.Init) (Init text)) (sym none) (init_makes s text (metamodel_of text) room could))
 
 -- each event that could be made
-pub again : (s : State) (m : Option Meta) → s.meta ≡ m → AllOrderly m s → (e : Event) → is_event e ≡ true → suits s.upgraded e ≡ true → playable_with s m e ≡ true
+pub again : (s : State) (m : Option Meta) → s.meta ≡ m → AllOrderly m s → (e : Event) → is_event e ≡ true → suits s.upgraded e ≡ true
+    → playable_with s m e ≡ true
     → is_too_long e ≡ false → is_not_printable s.history e ≡ false → HasRoom s e
     → Remakes s (item_again s.history e) e
 again s None none order (Init text) formed suited could few print room = init_again s text none could (is_event_is (Init text) formed).1 print room
@@ -480,4 +487,5 @@ has_room s event could stored = record {
 pub events_are_made_again : EventsAreMadeAgain
 events_are_made_again s event may =
     let formed = and_left (is_event event) (nat_le (length (event_encoding event)) most_bytes) (fitting s event may.could) in
-    again s s.meta refl may.orderly event formed (suiting s event may.could) (with_meta s event may.could) may.short may.printable (has_room s event may.could may.stored)
+    again s s.meta refl may.orderly event formed (suiting s event may.could) (with_meta s event may.could) may.short may.printable
+    (has_room s event may.could may.stored)

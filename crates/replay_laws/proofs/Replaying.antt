@@ -1,5 +1,6 @@
 -- The script of events, run on the empty repository, makes them again: by the first event, and then by those after it.
-use Rattle.std.proofs.Common.{◌≡◌, ◌+◌, ◌^◌, ◌<◌, ◌≤◌, ◌&&◌, ◌||◌, not, List, [], ◌∷◌, ◌++◌, length, Bool, false, Option, Some, refl, sym, ap, subst, arith, ℕ, map, inl, inr, length-append}
+use Rattle.std.proofs.Common.{◌≡◌, ◌+◌, ◌^◌, ◌<◌, ◌≤◌, ◌&&◌, ◌||◌, not, List, [], ◌∷◌, ◌++◌, length, Bool, false, Option, Some, refl, sym, ap, subst}
+use Rattle.std.proofs.Common.{arith, ℕ, map, inl, inr, length-append}
 use Rattle.std.specs.Prelude.{IsTrue}
 use Rattle.std.specs.List.{AllByRecursion}
 use Rattle.host_port.specs.Cut.{Item, Script}

@@ -1,5 +1,6 @@
 -- The answer of an event, by what holds of it.
-use Rattle.std.proofs.Common.{◌≡◌, ℕ, ◌<◌, ◌≤◌, ◌||◌, not, nat_lt, List, Bool, true, false, Option, Result, Ok, Err, if◌then◌else◌, length, refl, sym, ◌∙◌, subst}
+use Rattle.std.proofs.Common.{◌≡◌, ℕ, ◌<◌, ◌≤◌, ◌||◌, not, nat_lt, List, Bool, true, false, Option, Result, Ok, Err, if◌then◌else◌, length, refl, sym}
+use Rattle.std.proofs.Common.{◌∙◌, subst}
 use Rattle.std.proofs.lemmas.Bool.{lt-ltb, le-ltb}
 use Rattle.host_port.specs.Limits.{line_limit}
 use Rattle.op_form.specs.declared.event.Event.{Event}
@@ -39,24 +40,28 @@ test_lines known long no_text past lines is short whole fits = rw is (rw short (
 -- a version or a branch isn't there
 pub unknown : (h : History) (event : Event) → is_known h event ≡ false → lines_again h event ≡ Err Unknown
 unknown h event is =
-    test_unknown (is_known h event) (is_too_long event) (breaks event) (nat_lt line_limit (length (spaced (words_again h event)))) (printed_item (item_again h event)) is
+    test_unknown (is_known h event) (is_too_long event) (breaks event) (nat_lt line_limit (length (spaced (words_again h event))))
+    (printed_item (item_again h event)) is
 
 -- the package is too long
 pub too_long : (h : History) (event : Event) → is_known h event ≡ true → is_too_long event ≡ true → lines_again h event ≡ Err TooLong
 too_long h event is too =
-    test_long (is_known h event) (is_too_long event) (breaks event) (nat_lt line_limit (length (spaced (words_again h event)))) (printed_item (item_again h event)) is too
+    test_long (is_known h event) (is_too_long event) (breaks event) (nat_lt line_limit (length (spaced (words_again h event))))
+    (printed_item (item_again h event)) is too
 
 -- the text breaks its line or its block
 pub broken : (h : History) (event : Event) → is_known h event ≡ true → is_too_long event ≡ false → breaks event ≡ true
     → lines_again h event ≡ Err NotPrintable
 broken h event is short bad =
-    test_text (is_known h event) (is_too_long event) (breaks event) (nat_lt line_limit (length (spaced (words_again h event)))) (printed_item (item_again h event)) is short bad
+    test_text (is_known h event) (is_too_long event) (breaks event) (nat_lt line_limit (length (spaced (words_again h event))))
+    (printed_item (item_again h event)) is short bad
 
 -- the line is too long
 pub past_limit : (h : History) (event : Event) (line : List ℕ) → is_known h event ≡ true → is_too_long event ≡ false
     → line ≡ spaced (words_again h event) → line_limit < length line → lines_again h event ≡ Err NotPrintable
 past_limit h event line is short words past =
-    test_past (is_known h event) (is_too_long event) (breaks event) (nat_lt line_limit (length (spaced (words_again h event)))) (printed_item (item_again h event)) is short
+    test_past (is_known h event) (is_too_long event) (breaks event) (nat_lt line_limit (length (spaced (words_again h event))))
+    (printed_item (item_again h event)) is short
     (lt-ltb line_limit (length (spaced (words_again h event))) (subst (λ (l : List ℕ). line_limit < length l) words past))
 
 -- else the event has its lines
@@ -64,6 +69,7 @@ pub printed : (h : History) (event : Event) (line : List ℕ) (block : Option (L
     → line ≡ spaced (words_again h event) → block ≡ block_again event → breaks event ≡ false → length line ≤ line_limit
     → lines_again h event ≡ Ok (printed_item (record { line = line; block = block }))
 printed h event line block is short words text whole fits =
-    test_lines (is_known h event) (is_too_long event) (breaks event) (nat_lt line_limit (length (spaced (words_again h event)))) (printed_item (item_again h event)) is short whole
+    test_lines (is_known h event) (is_too_long event) (breaks event) (nat_lt line_limit (length (spaced (words_again h event))))
+    (printed_item (item_again h event)) is short whole
     (le-ltb line_limit (length (spaced (words_again h event))) (subst (λ (l : List ℕ). length l ≤ line_limit) words fits))
     ∙ (λ i. Ok (printed_item (record { line = sym words i; block = sym text i })))

@@ -1,5 +1,6 @@
 -- A text that doesn't break a block is cut out of it as it is, and so are the digits of a package.
-use Rattle.std.proofs.Common.{◌≡◌, ℕ, zero, suc, ◌+◌, ◌-◌, ◌<◌, ◌≤◌, ◌&&◌, ◌||◌, not, List, [], ◌∷◌, ◌++◌, length, Bool, true, false, nat_lt, nat_eq, refl, sym, ap, subst, ◌∙◌, arith, length-append}
+use Rattle.std.proofs.Common.{◌≡◌, ℕ, zero, suc, ◌+◌, ◌-◌, ◌<◌, ◌≤◌, ◌&&◌, ◌||◌, not, List, [], ◌∷◌, ◌++◌, length, Bool, true, false, nat_lt, nat_eq}
+use Rattle.std.proofs.Common.{refl, sym, ap, subst, ◌∙◌, arith, length-append}
 use Rattle.std.specs.List.{list_any, All, AllPass, slice_split, onto_first}
 use Rattle.std.specs.Str.{IsAscii}
 use Rattle.std.proofs.lemmas.Bool.{eqb-true}
@@ -156,7 +157,8 @@ digits_stand bytes are few =
         are = refl;
         plain =
             All-cons IsPlain digits []
-            (record { no_feed = digits_clear digits ok.1; whole = whole_from digits (digits_end digits ok.1); no_end = digits_no_dot digits ok.1 }) (All-nil IsPlain);
+            (record { no_feed = digits_clear digits ok.1; whole = whole_from digits (digits_end digits ok.1); no_end = digits_no_dot digits ok.1 })
+            (All-nil IsPlain);
       };
       short = omega (arith, size, ok.2, few);
     }

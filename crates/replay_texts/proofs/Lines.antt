@@ -1,5 +1,6 @@
 -- A line of quiet bytes and a message after them is cut out as it is.
-use Rattle.std.proofs.Common.{◌≡◌, ℕ, zero, suc, ◌-◌, ◌<◌, ◌≤◌, ◌&&◌, ◌||◌, not, List, [], ◌∷◌, ◌++◌, length, Bool, true, false, nat_lt, nat_eq, refl, subst, ◌∙◌, arith, length-append, append-nil}
+use Rattle.std.proofs.Common.{◌≡◌, ℕ, zero, suc, ◌-◌, ◌<◌, ◌≤◌, ◌&&◌, ◌||◌, not, List, [], ◌∷◌, ◌++◌, length, Bool, true, false, nat_lt, nat_eq, refl}
+use Rattle.std.proofs.Common.{subst, ◌∙◌, arith, length-append, append-nil}
 use Rattle.std.specs.List.{list_all, list_any, All}
 use Rattle.std.specs.Str.{IsAscii}
 use Rattle.std.proofs.lemmas.Bool.{ltb-true, and_parts}

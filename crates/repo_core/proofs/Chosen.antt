@@ -18,23 +18,30 @@ use Rattle.plain_repository.specs.State.{State, Workspace, is_open, workspace_of
 use Rattle.repo_core.specs.Decisions.{CanMakeIt, seen}
 use Rattle.repo_core.specs.declared.deciding.answers.Decision.{Decision}
 
-pub merge_none : (s : State) (ws : ℕ) (w : Workspace) (branch : ℕ) (letters : List ℕ) (other : ℕ) → has_theirs s.history w other ≡ false → merge_of s ws w branch letters other ≡ told [] (decimal other)
+pub merge_none : (s : State) (ws : ℕ) (w : Workspace) (branch : ℕ) (letters : List ℕ) (other : ℕ) → has_theirs s.history w other ≡ false
+    → merge_of s ws w branch letters other ≡ told [] (decimal other)
 merge_none s ws w branch letters other none = rw none refl
 
-pub merge_some : (s : State) (ws : ℕ) (w : Workspace) (branch : ℕ) (letters : List ℕ) (other : ℕ) → has_theirs s.history w other ≡ true → merge_of s ws w branch letters other ≡ with_room s [] (decimal other) (Merge ws branch letters)
+pub merge_some : (s : State) (ws : ℕ) (w : Workspace) (branch : ℕ) (letters : List ℕ) (other : ℕ) → has_theirs s.history w other ≡ true
+    → merge_of s ws w branch letters other ≡ with_room s [] (decimal other) (Merge ws branch letters)
 merge_some s ws w branch letters other some = rw some refl
 
 -- ---- what was answered to the choices
 pub refused_made : (o : Option Decision) (d : Decision) (s : State) → o ≡ Some d → IfSome o (λ d. (s : State) → CanMakeIt s d.made) → CanMakeIt s d.made
 refused_made o d s is made = subst (λ (x : Option Decision). IfSome x (λ d. (s : State) → CanMakeIt s d.made)) is made s
 
-pub refused_seen : (o : Option Decision) (d : Decision) (rows : List Bucket) (choices : Option (List ℕ)) (x : plain.Decision) → o ≡ Some d → IfSome o (λ d. (otherwise : plain.Decision) → seen d ≡ chosen rows choices otherwise) → seen d ≡ chosen rows choices x
-refused_seen o d rows choices x is refused = subst (λ (y : Option Decision). IfSome y (λ d. (otherwise : plain.Decision) → seen d ≡ chosen rows choices otherwise)) is refused x
+pub refused_seen : (o : Option Decision) (d : Decision) (rows : List Bucket) (choices : Option (List ℕ)) (x : plain.Decision) → o ≡ Some d
+    → IfSome o (λ d. (otherwise : plain.Decision) → seen d ≡ chosen rows choices otherwise) → seen d ≡ chosen rows choices x
+refused_seen o d rows choices x is refused =
+    subst (λ (y : Option Decision). IfSome y (λ d. (otherwise : plain.Decision) → seen d ≡ chosen rows choices otherwise)) is refused x
 
-pub passed_on : (o : Option Decision) (rows : List Bucket) (choices : Option (List ℕ)) (x : plain.Decision) → o ≡ None → IfNone o ((otherwise : plain.Decision) → chosen rows choices otherwise ≡ otherwise) → chosen rows choices x ≡ x
-passed_on o rows choices x is passed = subst (λ (y : Option Decision). IfNone y ((otherwise : plain.Decision) → chosen rows choices otherwise ≡ otherwise)) is passed x
+pub passed_on : (o : Option Decision) (rows : List Bucket) (choices : Option (List ℕ)) (x : plain.Decision) → o ≡ None
+    → IfNone o ((otherwise : plain.Decision) → chosen rows choices otherwise ≡ otherwise) → chosen rows choices x ≡ x
+passed_on o rows choices x is passed =
+    subst (λ (y : Option Decision). IfNone y ((otherwise : plain.Decision) → chosen rows choices otherwise ≡ otherwise)) is passed x
 
-pub passed_fit : (o : Option Decision) (rows : List Bucket) (choices : Option (List ℕ)) → o ≡ None → IfNone o (are_choices (unwrap_or choices []) rows ≡ true) → are_choices (unwrap_or choices []) rows ≡ true
+pub passed_fit : (o : Option Decision) (rows : List Bucket) (choices : Option (List ℕ)) → o ≡ None
+    → IfNone o (are_choices (unwrap_or choices []) rows ≡ true) → are_choices (unwrap_or choices []) rows ≡ true
 passed_fit o rows choices is fit = subst (λ (y : Option Decision). IfNone y (are_choices (unwrap_or choices []) rows ≡ true)) is fit
 
 -- ---- what an update is answered, where no composite is open
@@ -43,12 +50,15 @@ pub update_goes : (s : State) (meta : Meta) (ws : ℕ) (w : Workspace) (choices 
 unfolding decide_update
 update_goes s meta ws w choices there closed = sym (rw (there, closed) refl)
 
-pub update_none : (s : State) (ws : ℕ) (w : Workspace) (letters : List ℕ) (version : ℕ) → w.base ≡ version → update_to s ws w letters version ≡ told [] (decimal version)
+pub update_none : (s : State) (ws : ℕ) (w : Workspace) (letters : List ℕ) (version : ℕ) → w.base ≡ version
+    → update_to s ws w letters version ≡ told [] (decimal version)
 update_none s ws w letters version same = rw (same, same_number version) refl
 
-pub update_some : (s : State) (ws : ℕ) (w : Workspace) (letters : List ℕ) (version : ℕ) → w.base ≢ version → update_to s ws w letters version ≡ with_room s [] (decimal version) (Update ws letters)
+pub update_some : (s : State) (ws : ℕ) (w : Workspace) (letters : List ℕ) (version : ℕ) → w.base ≢ version
+    → update_to s ws w letters version ≡ with_room s [] (decimal version) (Update ws letters)
 update_some s ws w letters version other = rw (ne_eqb w.base version other) refl
 
-pub update_could : (s : State) (meta : Meta) (ws : ℕ) (letters : List ℕ) (w : Workspace) → s.meta ≡ Some meta → workspace_of s ws ≡ Some w → is_open (Some w) ≡ false → w.base ≢ head s.history w.branch
+pub update_could : (s : State) (meta : Meta) (ws : ℕ) (letters : List ℕ) (w : Workspace) → s.meta ≡ Some meta → workspace_of s ws ≡ Some w
+    → is_open (Some w) ≡ false → w.base ≢ head s.history w.branch
     → are_choices letters (update_buckets meta s.history w) ≡ true → playable_with s s.meta (Update ws letters) ≡ true
 update_could s meta ws letters w begun there shut other fit = rw (begun, there, shut, ne_eqb w.base (head s.history w.branch) other, fit) refl

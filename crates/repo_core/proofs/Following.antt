@@ -26,13 +26,16 @@ pub one_follows : (meta : Meta) (m n : State) (o : Operation) → fold meta m (s
 one_follows meta m n o is = ap is_some (package_on meta m n o [] is)
 
 -- what is recorded of an edit can be taken
-pub recorded_follows : (meta : Meta) → Sound meta → (m : State) → Good meta m → (ws : ℕ) (edit : Edit) (r : Recorded) (o : Operation) → recorded meta m ws edit ≡ Ok r → r.operation ≡ Some o → is_some (fold_package meta m (o ∷ [])) ≡ true
+pub recorded_follows : (meta : Meta) → Sound meta → (m : State) → Good meta m → (ws : ℕ) (edit : Edit) (r : Recorded) (o : Operation)
+    → recorded meta m ws edit ≡ Ok r → r.operation ≡ Some o → is_some (fold_package meta m (o ∷ [])) ≡ true
 recorded_follows meta sound m good ws edit r o is operation_is =
     let leads = recording_leads meta sound m good ws edit r is in
-    one_follows meta m (after meta m leads.effect) o (subst (λ (x : Option Operation). fold meta m (steps_in x) ≡ Some (after meta m leads.effect)) operation_is leads.run)
+    one_follows meta m (after meta m leads.effect) o
+    (subst (λ (x : Option Operation). fold meta m (steps_in x) ≡ Some (after meta m leads.effect)) operation_is leads.run)
 
 -- what is recorded of a document that was read can be taken
-pub imported_follows : (meta : Meta) → IsMetamodel meta → (m : State) → Good meta m → (ws : ℕ) (text : List ℕ) (rows : List DocRow) (o : Operation) → doc_of meta text ≡ Ok rows → Imports meta m ws rows (Ok (Some o))
+pub imported_follows : (meta : Meta) → IsMetamodel meta → (m : State) → Good meta m → (ws : ℕ) (text : List ℕ) (rows : List DocRow) (o : Operation)
+    → doc_of meta text ≡ Ok rows → Imports meta m ws rows (Ok (Some o))
     → is_some (fold_package meta m (o ∷ [])) ≡ true
 imported_follows meta promised m good ws text rows o is imports =
     let leads = imports_lead meta promised.sound m good ws rows (documents_fit meta promised text rows is) imports.0 imports.1 (Some o) imports.2 in

@@ -45,7 +45,8 @@ behind_it line x xs =
     by false part parts = refl
 
 -- a line and more
-more_lines : (text rest : List ℕ) → rest ≡ after_first is_lf text → position_or_len is_lf text < length text → rest ≢ [] → bytes_of_lines (slice_split is_lf text) ≡ None
+more_lines : (text rest : List ℕ) → rest ≡ after_first is_lf text → position_or_len is_lf text < length text → rest ≢ []
+    → bytes_of_lines (slice_split is_lf text) ≡ None
 more_lines text rest back within some =
     ap bytes_of_lines (slice_split_first is_lf text 0 within ∙ ap (λ (r : List ℕ). before_first is_lf text ∷ slice_split is_lf r) (sym back)) ∙ by rest some
   where
@@ -61,7 +62,8 @@ line_and_rest text line (x ∷ xs) front back within =
     ap (λ (b : Bool). cond b (if_decoded (decode_of line)) None) some ∙ sym (more_lines text (x ∷ xs) back within (λ e. cc))
 
 -- ---- the answer
-pub load_goes : (s : State) (meta : Meta) (ws : ℕ) (w : Workspace) (text bytes : List ℕ) → workspace_of s ws ≡ Some w → bytes_of_lines (slice_split is_lf text) ≡ Some bytes
+pub load_goes : (s : State) (meta : Meta) (ws : ℕ) (w : Workspace) (text bytes : List ℕ) → workspace_of s ws ≡ Some w
+    → bytes_of_lines (slice_split is_lf text) ≡ Some bytes
     → load_read s meta ws w (whole_of package_form_at bytes) ≡ decide_load s meta ws text
 unfolding decide_load
 load_goes s meta ws w text bytes there spelled = sym (rw (there, spelled) refl)

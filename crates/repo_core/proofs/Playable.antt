@@ -24,9 +24,11 @@ use Rattle.plain_repository.specs.Specs.{named}
 pub init_could : (s : State) (meta : Option Meta) (text : List ℕ) → meta ≡ None → is_ok (metamodel_of text) ≡ true → playable_with s meta (Init text) ≡ true
 init_could s meta text none is = rw none is
 
-pub edit_could : (s : State) (m : Option Meta) (meta : Meta) (ws : ℕ) (w : Workspace) (o : Operation) → m ≡ Some meta → workspace_of s ws ≡ Some w → is_some (fold_package meta (model_of meta s.history w) (o ∷ [])) ≡ true
+pub edit_could : (s : State) (m : Option Meta) (meta : Meta) (ws : ℕ) (w : Workspace) (o : Operation) → m ≡ Some meta → workspace_of s ws ≡ Some w
+    → is_some (fold_package meta (model_of meta s.history w) (o ∷ [])) ≡ true
     → playable_with s m (Edit ws (o ∷ [])) ≡ true
-edit_could s m meta ws w o is there can = rw (is, there) (and_true (takes w.composite (o ∷ [])) (is_some (fold_package meta (model_of meta s.history w) (o ∷ []))) (one_taken w.composite) can)
+edit_could s m meta ws w o is there can =
+    rw (is, there) (and_true (takes w.composite (o ∷ [])) (is_some (fold_package meta (model_of meta s.history w) (o ∷ []))) (one_taken w.composite) can)
   where
     and_true : (b c : Bool) → b ≡ true → c ≡ true → (b && c) ≡ true
     and_true true c is also = also
@@ -40,7 +42,8 @@ edit_could s m meta ws w o is there can = rw (is, there) (and_true (takes w.comp
 abbrev on_it : (h : History) (version branch : ℕ) → Bool
 on_it h version branch = option_map_or (λ (v : Version). nat_eq v.branch branch) (slice_get h.versions version) false || nat_eq (head h branch) version
 
-number_on : (h : History) (v : ℕ) (found : Found) (o : Option Version) → slice_get h.versions v ≡ o → on_its_branch v o ≡ Ok found → on_it h found.version found.branch ≡ true
+number_on : (h : History) (v : ℕ) (found : Found) (o : Option Version) → slice_get h.versions v ≡ o → on_its_branch v o ≡ Ok found
+    → on_it h found.version found.branch ≡ true
 number_on h v found None at is = absurd cc
 number_on h v found (Some version) at is =
     let version_is : found.version ≡ v = cc in
@@ -56,7 +59,8 @@ branch_on h found None is = absurd cc
 branch_on h found (Some branch) is =
     let version_is : found.version ≡ head h branch = cc in
     let branch_is : found.branch ≡ branch = cc in
-    rw (version_is, branch_is, same_number (head h branch)) (or_true (option_map_or (λ (v : Version). nat_eq v.branch branch) (slice_get h.versions (head h branch)) false))
+    rw (version_is, branch_is, same_number (head h branch))
+    (or_true (option_map_or (λ (v : Version). nat_eq v.branch branch) (slice_get h.versions (head h branch)) false))
 
 tag_on : (h : History) (found : Found) (o : Option Tag) → of_its_version h o ≡ Ok found → on_it h found.version found.branch ≡ true
 tag_on h found None is = absurd cc
@@ -67,9 +71,12 @@ spec_on h (Number n) found is = number_on h n found (slice_get h.versions n) ref
 spec_on h (Branch name) found is = branch_on h found (branch_named h name) is
 spec_on h (TagNamed name) found is = tag_on h found (tag_named h name) is
 
-pub checkout_could : (s : State) (meta : Meta) (spec : Spec) (found : Found) → s.meta ≡ Some meta → named s.history spec ≡ Ok found → found.version < length s.history.versions → found.branch < length s.history.branches
+pub checkout_could : (s : State) (meta : Meta) (spec : Spec) (found : Found) → s.meta ≡ Some meta → named s.history spec ≡ Ok found
+    → found.version < length s.history.versions → found.branch < length s.history.branches
     → playable_with s s.meta (Checkout found.version found.branch) ≡ true
-checkout_could s meta spec found begun is version branch = rw (begun, lt-ltb found.version (length s.history.versions) version, lt-ltb found.branch (length s.history.branches) branch) (spec_on s.history spec found is)
+checkout_could s meta spec found begun is version branch =
+    rw (begun, lt-ltb found.version (length s.history.versions) version, lt-ltb found.branch (length s.history.branches) branch)
+    (spec_on s.history spec found is)
 
 -- what holds of the operation, where there is one
 pub each_could : (o : Option Operation) (Holds : Operation → Type 0) → ((x : Operation) → o ≡ Some x → Holds x) → IfSome o Holds

@@ -67,7 +67,8 @@ with_id m command = elim (creation_without_id command) [ Some ws ↦ given_id (f
 
 -- the number of the first step of the operations that can't be taken on the working model of the workspace of that number
 abbrev pub IsStop : State → ℕ → List Operation → Option ℕ → Type 0
-IsStop s ws operations found = (meta : Meta) (w : Workspace) → s.meta ≡ Some meta → workspace_of s ws ≡ Some w → found ≡ option_map (λ stop. stop.at) (first_stop meta (model_of meta s.history w) (steps_all operations))
+IsStop s ws operations found = (meta : Meta) (w : Workspace) → s.meta ≡ Some meta → workspace_of s ws ≡ Some w
+    → found ≡ option_map (λ stop. stop.at) (first_stop meta (model_of meta s.history w) (steps_all operations))
 
 -- the workspace is there, and takes the operations: while a composite is open it takes one
 abbrev pub takes_in : Option Workspace → List Operation → Bool

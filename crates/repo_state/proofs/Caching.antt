@@ -6,8 +6,12 @@ use Rattle.version_states.specs.Cached.{AreForms}
 use Rattle.plain_repository.specs.State.{State}
 
 -- the same, said of a metamodel and a history
-pub forms_begun : (s : State) (meta : Meta) (h : History) (entries : List (ℕ × List ℕ)) → s.meta ≡ Some meta → s.history ≡ h → AreForms s.meta s.history entries → AreForms (Some meta) h entries
-forms_begun s meta h entries begun is forms = subst (λ (g : History). AreForms (Some meta) g entries) is (subst (λ (m : Option Meta). AreForms m s.history entries) begun forms)
+pub forms_begun : (s : State) (meta : Meta) (h : History) (entries : List (ℕ × List ℕ)) → s.meta ≡ Some meta → s.history ≡ h
+    → AreForms s.meta s.history entries → AreForms (Some meta) h entries
+forms_begun s meta h entries begun is forms =
+    subst (λ (g : History). AreForms (Some meta) g entries) is (subst (λ (m : Option Meta). AreForms m s.history entries) begun forms)
 
-pub forms_back : (s : State) (meta : Meta) (h : History) (entries : List (ℕ × List ℕ)) → s.meta ≡ Some meta → s.history ≡ h → AreForms (Some meta) h entries → AreForms s.meta s.history entries
-forms_back s meta h entries begun is forms = subst (λ (m : Option Meta). AreForms m s.history entries) (sym begun) (subst (λ (g : History). AreForms (Some meta) g entries) (sym is) forms)
+pub forms_back : (s : State) (meta : Meta) (h : History) (entries : List (ℕ × List ℕ)) → s.meta ≡ Some meta → s.history ≡ h
+    → AreForms (Some meta) h entries → AreForms s.meta s.history entries
+forms_back s meta h entries begun is forms =
+    subst (λ (m : Option Meta). AreForms m s.history entries) (sym begun) (subst (λ (g : History). AreForms (Some meta) g entries) (sym is) forms)

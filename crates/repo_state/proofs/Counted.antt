@@ -7,7 +7,8 @@ use Rattle.command_runs.specs.Runs.{played}
 use Rattle.history_tree.specs.History.{head}
 use Rattle.history_tree.specs.declared.version.Signature.{Signature}
 use Rattle.op_form.specs.declared.event.Event.{Event}
-use Rattle.op_form.specs.declared.event.Event.TheVariants.{Init, Checkout, Edit, Begin, End, Undo, Discard, Tidy, Commit, Branch, Tag, Update, Merge, Drop, Evolve, Upgrade, Signed}
+use Rattle.op_form.specs.declared.event.Event.TheVariants.{Init, Checkout, Edit, Begin, End, Undo, Discard, Tidy, Commit, Branch, Tag, Update, Merge}
+use Rattle.op_form.specs.declared.event.Event.TheVariants.{Drop, Evolve, Upgrade, Signed}
 use Rattle.plain_repository.specs.State.{State, Workspace, empty, untouched, workspace_of, changed_at, changed_by_number}
 use Rattle.plain_repository.specs.Answers.{most_events, fits_record}
 use Rattle.plain_repository.specs.Commits.{committed, with_commit, moved_onto, with_new_branch}
@@ -54,7 +55,8 @@ effect_adds_one s (Branch k name) = by (workspace_of s k)
     by (Some w) = changed (option_map (moved_onto (length s.history.branches))) s.workspaces k
 effect_adds_one s (Tag name version) = same s.workspaces
 effect_adds_one s (Update k letters) = changed (option_map (by_meta s.meta (λ meta. updated meta s.history letters))) s.workspaces k
-effect_adds_one s (Merge k branch letters) = changed (option_map (by_meta s.meta (λ meta. merged_with meta s.history (head s.history branch) letters))) s.workspaces k
+effect_adds_one s (Merge k branch letters) =
+    changed (option_map (by_meta s.meta (λ meta. merged_with meta s.history (head s.history branch) letters))) s.workspaces k
 effect_adds_one s (Drop k) = changed (λ o. None) s.workspaces k
 effect_adds_one s (Evolve text) = same s.workspaces
 effect_adds_one s Upgrade = same s.workspaces
@@ -68,7 +70,8 @@ had_room : (s : State) (e : Event) → IsTrue (playable s e) → s.events + 1 �
 unfolding playable
 had_room s e could =
     let room = nat_lt s.events most_events in
-    let fits = and_left (room && fits_record e) (suits s.upgraded e) (and_left (room && fits_record e && suits s.upgraded e) (playable_with s s.meta e) could) in
+    let fits = and_left (room && fits_record e) (suits s.upgraded e)
+    (and_left (room && fits_record e && suits s.upgraded e) (playable_with s s.meta e) could) in
     let is = leb-true (suc s.events) most_events (and_left room (fits_record e) fits) in
     omega (arith, is)
 
@@ -78,7 +81,9 @@ play_few s e could few = record { workspaces = omega (arith, few.workspaces, eff
 
 played_few : (s : State) (events : List Event) → IsTrue (are_playable s events) → Few s → Few (played play s events)
 played_few s [] could few = few
-played_few s (e ∷ events) could few = played_few (play s e) events (and_right (playable s e) (are_playable (play s e) events) could) (play_few s e (and_left (playable s e) (are_playable (play s e) events) could) few)
+played_few s (e ∷ events) could few =
+    played_few (play s e) events (and_right (playable s e) (are_playable (play s e) events) could)
+    (play_few s e (and_left (playable s e) (are_playable (play s e) events) could) few)
 
 none_few : Few empty
 none_few = record { workspaces = omega arith; events = omega arith }

@@ -1,5 +1,6 @@
 -- What an event makes of one workspace, and that all stays in order.
-use Rattle.std.proofs.Common.{◌≡◌, ℕ, zero, suc, ◌<◌, List, [], ◌∷◌, ◌++◌, map, Bool, true, false, length, Option, None, Some, Result, Ok, Err, OnOk, OnErr, refl, sym, ◌∙◌, ap, subst, arith}
+use Rattle.std.proofs.Common.{◌≡◌, ℕ, zero, suc, ◌<◌, List, [], ◌∷◌, ◌++◌, map, Bool, true, false, length, Option, None, Some, Result, Ok, Err, OnOk}
+use Rattle.std.proofs.Common.{OnErr, refl, sym, ◌∙◌, ap, subst, arith}
 use Rattle.std.specs.Prelude.{All, if◌then◌else◌}
 use Rattle.std.proofs.lemmas.List.Elements.{All-append, All-cons, All-nil}
 use Rattle.op_form.specs.declared.event.Event.TheVariants.{Checkout}
@@ -48,10 +49,12 @@ abbrev pub history_in : State → History
 history_in s = s.history
 
 -- the metamodel and the history that are there
-pub begun_is : (b : Option Begun) (begun : Begun) (l : List (Option Workspace)) (events end : ℕ) (s : State) → held b l events end ≡ s → b ≡ Some begun → s.meta ≡ Some begun.meta
+pub begun_is : (b : Option Begun) (begun : Begun) (l : List (Option Workspace)) (events end : ℕ) (s : State) → held b l events end ≡ s
+    → b ≡ Some begun → s.meta ≡ Some begun.meta
 begun_is b begun l events end s view is = sym (ap meta_in view) ∙ ap meta_of is
 
-pub history_is : (b : Option Begun) (begun : Begun) (l : List (Option Workspace)) (events end : ℕ) (s : State) → held b l events end ≡ s → b ≡ Some begun → s.history ≡ begun.history.history
+pub history_is : (b : Option Begun) (begun : Begun) (l : List (Option Workspace)) (events end : ℕ) (s : State) → held b l events end ≡ s
+    → b ≡ Some begun → s.history ≡ begun.history.history
 history_is b begun l events end s view is = sym (ap history_in view) ∙ ap history_of is
 
 -- ---- one workspace
@@ -62,19 +65,23 @@ pub record Placed (b : Option Begun) (ws : List (Option Kept)) (events end : ℕ
   pub below : i < length s.workspaces
   pub at : get_or ws i d ≡ Some w
 
-pub placed : (b : Option Begun) (ws : List (Option Kept)) (events end : ℕ) (s : State) (k i : ℕ) (old d : Option Kept) (w : Kept) → held b (map plain_any ws) events end ≡ s → k ≡ suc i → i < length s.workspaces → old ≡ get_or ws i d → old ≡ Some w
+pub placed : (b : Option Begun) (ws : List (Option Kept)) (events end : ℕ) (s : State) (k i : ℕ) (old d : Option Kept) (w : Kept)
+    → held b (map plain_any ws) events end ≡ s → k ≡ suc i → i < length s.workspaces → old ≡ get_or ws i d → old ≡ Some w
     → Placed b ws events end s k i d w
 placed b ws events end s k i old d w view number below old_is some = record { view = view; number = number; below = below; at = sym old_is ∙ some }
 
 -- the workspace at a place is set to what the change makes of it
-pub set_is : (change : Option Workspace → Option Workspace) (ws : List (Option Kept)) (i : ℕ) (d new : Option Kept) → i < length ws → plain_any new ≡ change (plain_any (get_or ws i d)) → map plain_any (set ws i new) ≡ changed_at change (map plain_any ws) i
+pub set_is : (change : Option Workspace → Option Workspace) (ws : List (Option Kept)) (i : ℕ) (d new : Option Kept) → i < length ws
+    → plain_any new ≡ change (plain_any (get_or ws i d)) → map plain_any (set ws i new) ≡ changed_at change (map plain_any ws) i
 set_is change [] i d new below is = absurd (omega arith)
 set_is change (x ∷ ws) zero d new below is = ap (λ (y : Option Workspace). y ∷ map plain_any ws) is
 set_is change (x ∷ ws) (suc i) d new below is = ap (λ (l : List (Option Workspace)). plain_any x ∷ l) (set_is change ws i d new (omega arith) is)
 
 -- so is that of its number
-pub number_set : (change : Option Workspace → Option Workspace) (b : Option Begun) (ws : List (Option Kept)) (events end : ℕ) (s : State) (k i : ℕ) (d new : Option Kept) → held b (map plain_any ws) events end ≡ s → k ≡ suc i → i < length s.workspaces
-    → plain_any new ≡ change (plain_any (get_or ws i d)) → held b (map plain_any (set ws i new)) events end ≡ record s { workspaces = changed_by_number change s.workspaces k }
+pub number_set : (change : Option Workspace → Option Workspace) (b : Option Begun) (ws : List (Option Kept)) (events end : ℕ) (s : State) (k i : ℕ)
+    (d new : Option Kept) → held b (map plain_any ws) events end ≡ s → k ≡ suc i → i < length s.workspaces
+    → plain_any new ≡ change (plain_any (get_or ws i d))
+    → held b (map plain_any (set ws i new)) events end ≡ record s { workspaces = changed_by_number change s.workspaces k }
 number_set change b ws events end s k i d new view number below is =
     ap (λ (l : List (Option Workspace)). held b l events end) (set_is change ws i d new (below_is s ws i (ap (λ (s : State). s.workspaces) view) below) is)
     ∙ ap (λ (t : State). record t { workspaces = changed_at change t.workspaces i }) view
@@ -86,16 +93,20 @@ any_default [] i d e below = absurd (omega arith)
 any_default (w ∷ ws) zero d e below = refl
 any_default (w ∷ ws) (suc i) d e below = any_default ws i d e (omega arith)
 
-module _ {b : Option Begun} {ws : List (Option Kept)} {events end : ℕ} {s : State} {k i : ℕ} {d : Option Kept} {w : Kept} (p : Placed b ws events end s k i d w) where
+module _ {b : Option Begun} {ws : List (Option Kept)} {events end : ℕ} {s : State} {k i : ℕ} {d : Option Kept} {w : Kept}
+    (p : Placed b ws events end s k i d w) where
   within : i < length ws
   within = below_is s ws i (ap (λ (s : State). s.workspaces) p.view) p.below
 
-  pub changed_view : (change : Workspace → Workspace) (new : Kept) → plain_of new ≡ change (plain_of w) → held b (map plain_any (set ws i (Some new))) events end ≡ with_changed change k s
+  pub changed_view : (change : Workspace → Workspace) (new : Kept) → plain_of new ≡ change (plain_of w)
+      → held b (map plain_any (set ws i (Some new))) events end ≡ with_changed change k s
   changed_view change new is =
-      number_set (option_map change) b ws events end s k i d (Some new) p.view p.number p.below (ap Some is ∙ ap (λ (o : Option Kept). option_map change (plain_any o)) (sym p.at))
+      number_set (option_map change) b ws events end s k i d (Some new) p.view p.number p.below
+      (ap Some is ∙ ap (λ (o : Option Kept). option_map change (plain_any o)) (sym p.at))
 
   pub unchanged_view : (new : Kept) → plain_of new ≡ plain_of w → held b (map plain_any (set ws i (Some new))) events end ≡ s
-  unchanged_view new is = ap (λ (l : List (Option Workspace)). held b l events end) (set_same ws i (Some new) d within (ap Some is ∙ ap plain_any (sym p.at))) ∙ p.view
+  unchanged_view new is =
+      ap (λ (l : List (Option Workspace)). held b l events end) (set_same ws i (Some new) d within (ap Some is ∙ ap plain_any (sym p.at))) ∙ p.view
 
   pub placed_there : workspace_of s k ≡ Some (plain_of w)
   placed_there = at_is s ws k i (Some w) d (ap (λ (s : State). s.workspaces) p.view) p.number p.below (sym p.at)
@@ -113,26 +124,34 @@ pub could_with : (s : State) (meta : Meta) (e : Event) → s.meta ≡ Some meta 
 could_with s meta e begun could = subst (λ (m : Option Meta). playable_with s m e ≡ true) begun could
 
 -- after an event that could be made
-pub effect_orderly : (s new : State) (meta : Meta) (e : Event) → s.meta ≡ Some meta → playable_with s s.meta e ≡ true → IsEvent e → IsOrderly s → new ≡ effect s e → IsOrderly new
+pub effect_orderly : (s new : State) (meta : Meta) (e : Event) → s.meta ≡ Some meta → playable_with s s.meta e ≡ true → IsEvent e → IsOrderly s
+    → new ≡ effect s e → IsOrderly new
 effect_orderly s new meta e begun could spelled orderly is =
     let can = could_with s meta e begun could in
-    subst IsOrderly (sym is) (subst (λ (m : Option Meta). AllOrderly m (effect s e)) (sym (meta_left s meta e begun can)) (event_kept meta s e begun can spelled (subst (λ (m : Option Meta). AllOrderly m s) begun orderly)))
+    subst IsOrderly (sym is)
+    (subst (λ (m : Option Meta). AllOrderly m (effect s e)) (sym (meta_left s meta e begun can))
+    (event_kept meta s e begun can spelled (subst (λ (m : Option Meta). AllOrderly m s) begun orderly)))
 
 -- so it is by the result of the call that made it
-pub either_orderly : {T E : Type 0} (r : Result T E) (s new : State) (meta : Meta) (e : Event) → s.meta ≡ Some meta → playable_with s s.meta e ≡ true → IsEvent e → IsOrderly s → OnOk r (new ≡ effect s e) → OnErr r (new ≡ s) → IsOrderly new
-either_orderly r s new meta e begun could spelled orderly done same = either r done same (λ is. effect_orderly s new meta e begun could spelled orderly is) (λ is. subst IsOrderly (sym is) orderly)
+pub either_orderly : {T E : Type 0} (r : Result T E) (s new : State) (meta : Meta) (e : Event) → s.meta ≡ Some meta → playable_with s s.meta e ≡ true
+    → IsEvent e → IsOrderly s → OnOk r (new ≡ effect s e) → OnErr r (new ≡ s) → IsOrderly new
+either_orderly r s new meta e begun could spelled orderly done same =
+    either r done same (λ is. effect_orderly s new meta e begun could spelled orderly is) (λ is. subst IsOrderly (sym is) orderly)
 
 -- ---- the history
 -- what contracts see of a repository whose history is another one
-pub grown : (b : Option Begun) (begun new : Begun) (h : History) (l : List (Option Workspace)) (events end : ℕ) (t : State) → b ≡ Some begun → new.meta ≡ begun.meta → new.upgraded ≡ begun.upgraded → new.history.history ≡ h
+pub grown : (b : Option Begun) (begun new : Begun) (h : History) (l : List (Option Workspace)) (events end : ℕ) (t : State) → b ≡ Some begun
+    → new.meta ≡ begun.meta → new.upgraded ≡ begun.upgraded → new.history.history ≡ h
     → held b l events end ≡ t → held (Some new) l events end ≡ record t { history = h }
 grown b begun new h l events end t is meta form hist view =
     ap (λ (g : History). record { meta = Some new.meta; history = g; workspaces = l; upgraded = new.upgraded; events = events; end = end }) hist
-    ∙ ap (λ (m : Option Meta). record { meta = m; history = h; workspaces = l; upgraded = new.upgraded; events = events; end = end }) (ap Some meta ∙ sym (ap meta_of is))
+    ∙ ap (λ (m : Option Meta). record { meta = m; history = h; workspaces = l; upgraded = new.upgraded; events = events; end = end })
+    (ap Some meta ∙ sym (ap meta_of is))
     ∙ ap (λ (u : Bool). record { meta = meta_of b; history = h; workspaces = l; upgraded = u; events = events; end = end }) (form ∙ sym (ap upgraded_of is))
     ∙ ap (λ (t : State). record t { history = h }) view
 
-pub grown_fit : (begun new : Begun) (h : History) (ws : List (Option Kept)) → new.meta ≡ begun.meta → new.history.history ≡ h → All (FitsAny begun.meta h) ws → AllFit (Some new) ws
+pub grown_fit : (begun new : Begun) (h : History) (ws : List (Option Kept)) → new.meta ≡ begun.meta → new.history.history ≡ h
+    → All (FitsAny begun.meta h) ws → AllFit (Some new) ws
 grown_fit begun new h ws meta hist all =
     subst (λ (m : Meta). All (FitsAny m new.history.history) ws) (sym meta) (subst (λ (g : History). All (FitsAny begun.meta g) ws) (sym hist) all)
 
@@ -142,20 +161,26 @@ map_more [] x = refl
 map_more (w ∷ ws) x = ap (λ (l : List (Option Workspace)). plain_any w ∷ l) (map_more ws x)
 
 -- a workspace more
-pub pushed_view : (b : Option Begun) (ws : List (Option Kept)) (events end : ℕ) (s : State) (w : Kept) (version branch : ℕ) → held b (map plain_any ws) events end ≡ s → plain_of w ≡ untouched branch version
+pub pushed_view : (b : Option Begun) (ws : List (Option Kept)) (events end : ℕ) (s : State) (w : Kept) (version branch : ℕ)
+    → held b (map plain_any ws) events end ≡ s → plain_of w ≡ untouched branch version
     → held b (map plain_any (ws ++ Some w ∷ [])) events end ≡ checked_out version branch s
 pushed_view b ws events end s w version branch view is =
-    ap (λ (l : List (Option Workspace)). held b l events end) (map_more ws (Some w)) ∙ ap (λ (o : Workspace). held b (map plain_any ws ++ Some o ∷ []) events end) is
+    ap (λ (l : List (Option Workspace)). held b l events end) (map_more ws (Some w))
+    ∙ ap (λ (o : Workspace). held b (map plain_any ws ++ Some o ∷ []) events end) is
     ∙ ap (λ (t : State). record t { workspaces = t.workspaces ++ Some (untouched branch version) ∷ [] }) view
 
-pub pushed_order : (b : Option Begun) (ws new : List (Option Kept)) (events end : ℕ) (s : State) (meta : Meta) (w : Kept) (ok : Bool) (version branch : ℕ) → held b (map plain_any ws) events end ≡ s → s.meta ≡ Some meta
-    → playable_with s s.meta (Checkout version branch) ≡ true → IsEvent (Checkout version branch) → IsOrderly s → plain_of w ≡ untouched branch version → new ≡ (if ok then ws ++ Some w ∷ [] else ws) → IsOrderly (held b (map plain_any new) events end)
+pub pushed_order : (b : Option Begun) (ws new : List (Option Kept)) (events end : ℕ) (s : State) (meta : Meta) (w : Kept) (ok : Bool)
+    (version branch : ℕ) → held b (map plain_any ws) events end ≡ s → s.meta ≡ Some meta
+    → playable_with s s.meta (Checkout version branch) ≡ true → IsEvent (Checkout version branch) → IsOrderly s
+    → plain_of w ≡ untouched branch version → new ≡ (if ok then ws ++ Some w ∷ [] else ws) → IsOrderly (held b (map plain_any new) events end)
 pushed_order b ws new events end s meta w true version branch view begun could spelled orderly untouched_is is =
-    subst (λ (l : List (Option Kept)). IsOrderly (held b (map plain_any l) events end)) (sym is) (effect_orderly s _ meta (Checkout version branch) begun could spelled orderly (pushed_view b ws events end s w version branch view untouched_is))
+    subst (λ (l : List (Option Kept)). IsOrderly (held b (map plain_any l) events end)) (sym is)
+    (effect_orderly s _ meta (Checkout version branch) begun could spelled orderly (pushed_view b ws events end s w version branch view untouched_is))
 pushed_order b ws new events end s meta w false version branch view begun could spelled orderly untouched_is is =
     subst (λ (l : List (Option Kept)). IsOrderly (held b (map plain_any l) events end)) (sym is) (subst IsOrderly (sym view) orderly)
 
-pub pushed_fit : (b : Option Begun) (ws new : List (Option Kept)) (w : Kept) (ok : Bool) → w.model ≡ None → new ≡ (if ok then ws ++ Some w ∷ [] else ws) → AllFit b ws → AllFit b new
+pub pushed_fit : (b : Option Begun) (ws new : List (Option Kept)) (w : Kept) (ok : Bool) → w.model ≡ None
+    → new ≡ (if ok then ws ++ Some w ∷ [] else ws) → AllFit b ws → AllFit b new
 pushed_fit None ws new w ok none is all = tt
 pushed_fit (Some begun) ws new w true none is all =
     let P = FitsAny begun.meta begun.history.history in

@@ -22,15 +22,36 @@ pub none_of : {X : Type 0} (o : Option X) → is_some o ≡ false → o ≡ None
 none_of None none = refl
 none_of (Some x) none = absurd cc
 
-module _ (b : Option Begun) (ws : List (Option Kept)) (events end : ℕ) (s : State) (text : List ℕ) (new : Begun) (view : held b (map plain_any ws) events end ≡ s) (none : b ≡ None) (orderly : IsOrderly s) (read : metamodel_of text ≡ Ok new.meta) (first : new.history.history ≡ first_history) (fresh : new.upgraded ≡ false) where
+module _ (b : Option Begun) (ws : List (Option Kept)) (events end : ℕ) (s : State) (text : List ℕ) (new : Begun)
+    (view : held b (map plain_any ws) events end ≡ s) (none : b ≡ None) (orderly : IsOrderly s) (read : metamodel_of text ≡ Ok new.meta)
+    (first : new.history.history ≡ first_history) (fresh : new.upgraded ≡ false) where
   no_meta : s.meta ≡ None
   no_meta = sym (ap meta_in view) ∙ ap meta_of none
 
   pub begin_done : held (Some new) (map plain_any ws) events end ≡ effect s (Init text)
   begin_done =
-      ap (λ (m : Option Meta). record { meta = m; history = new.history.history; workspaces = map plain_any ws; upgraded = new.upgraded; events = events; end = end }) (sym (ap meta_of_read read))
-      ∙ ap (λ (h : History). record { meta = meta_of_read (metamodel_of text); history = h; workspaces = map plain_any ws; upgraded = new.upgraded; events = events; end = end }) first
-      ∙ ap (λ (u : Bool). record { meta = meta_of_read (metamodel_of text); history = first_history; workspaces = map plain_any ws; upgraded = u; events = events; end = end }) (fresh ∙ sym (ap upgraded_of none))
+      ap (λ (m : Option Meta).
+      record { meta = m; history = new.history.history; workspaces = map plain_any ws; upgraded = new.upgraded; events = events; end = end })
+      (sym (ap meta_of_read read))
+      ∙ ap (λ (h : History).
+      record {
+        meta = meta_of_read (metamodel_of text);
+        history = h;
+        workspaces = map plain_any ws;
+        upgraded = new.upgraded;
+        events =
+            events;
+        end = end;
+      }) first
+      ∙ ap (λ (u : Bool). record {
+        meta = meta_of_read (metamodel_of text);
+        history = first_history;
+        workspaces = map plain_any ws;
+        upgraded =
+            u;
+        events = events;
+        end = end;
+      }) (fresh ∙ sym (ap upgraded_of none))
       ∙ ap (λ (t : State). record t { meta = meta_of_read (metamodel_of text); history = first_history }) view
 
   no_workspace : map plain_any ws ≡ []
@@ -45,4 +66,6 @@ module _ (b : Option Begun) (ws : List (Option Kept)) (events end : ℕ) (s : St
 
   pub begin_orderly : IsEvent (Init text) → IsOrderly (held (Some new) (map plain_any ws) events end)
   begin_orderly spelled =
-      subst IsOrderly (sym begin_done) (effect_keeps s None (Init text) no_meta (ap (λ (r : Result Meta EcoreFault). is_ok r) read) spelled (subst (λ (m : Option Meta). AllOrderly m s) no_meta orderly))
+      subst IsOrderly (sym begin_done)
+      (effect_keeps s None (Init text) no_meta (ap (λ (r : Result Meta EcoreFault). is_ok r) read) spelled
+      (subst (λ (m : Option Meta). AllOrderly m s) no_meta orderly))

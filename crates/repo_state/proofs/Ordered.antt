@@ -12,11 +12,13 @@ pub is_there : (s : State) (meta : Meta) (ws : ℕ) (w : Workspace) → IsOrderl
 is_there s meta ws w orderly begun there = record { in_state = record { orderly = orderly; begun = begun }; ws = ws; there = there }
 
 -- the state of each version is defined
-pub version_leads : (s : State) (meta : Meta) → IsOrderly s → s.meta ≡ Some meta → (v : ℕ) → v < length s.history.versions → is_some (state_folded meta s.history v) ≡ true
+pub version_leads : (s : State) (meta : Meta) → IsOrderly s → s.meta ≡ Some meta → (v : ℕ) → v < length s.history.versions
+    → is_some (state_folded meta s.history v) ≡ true
 version_leads s meta orderly begun v below = ap is_some (versions_are_defined s meta (record { orderly = orderly; begun = begun }) v below)
 
 -- and has an encoding
-pub version_spelled : (s : State) (meta : Meta) → IsOrderly s → s.meta ≡ Some meta → (v : ℕ) → v < length s.history.versions → IsSpelled meta (state_of meta s.history v)
+pub version_spelled : (s : State) (meta : Meta) → IsOrderly s → s.meta ≡ Some meta → (v : ℕ) → v < length s.history.versions
+    → IsSpelled meta (state_of meta s.history v)
 version_spelled s meta orderly begun v below = versions_are_spelled s meta (record { orderly = orderly; begun = begun }) v below
 
 pub base_spelled : (s : State) (meta : Meta) (w : Workspace) → IsThere s meta w → IsSpelled meta (state_of meta s.history w.base)

@@ -20,17 +20,21 @@ pub record Taker (s : State) (meta : Meta) (ws : ℕ) (os : List Operation) : Ty
   pub there : workspace_of s ws ≡ Some workspace
   pub tests : playable_with s s.meta (Edit ws os) ≡ is_some (fold_package meta (model_of meta s.history workspace) os)
 
-taker_by : (s : State) (meta : Meta) (ws : ℕ) (os : List Operation) (o : Option Workspace) → s.meta ≡ Some meta → workspace_of s ws ≡ o → can_take (Some meta) o os ≡ true → Taker s meta ws os
+taker_by : (s : State) (meta : Meta) (ws : ℕ) (os : List Operation) (o : Option Workspace) → s.meta ≡ Some meta → workspace_of s ws ≡ o
+    → can_take (Some meta) o os ≡ true → Taker s meta ws os
 taker_by s meta ws os None begun there can = absurd cc
 taker_by s meta ws [] (Some w) begun there can = absurd cc
 taker_by s meta ws (x ∷ xs) (Some w) begun there can = record {
   workspace = w;
   there = there;
-  tests = ap (λ (m : Option Meta). playable_with s m (Edit ws (x ∷ xs))) begun ∙ ap (λ (o : Option Workspace). can_follow meta s.history o (x ∷ xs)) there ∙ ap (λ (b : Bool). b && is_some (fold_package meta (model_of meta s.history w) (x ∷ xs))) can;
+  tests = ap (λ (m : Option Meta). playable_with s m (Edit ws (x ∷ xs))) begun
+      ∙ ap (λ (o : Option Workspace). can_follow meta s.history o (x ∷ xs)) there
+      ∙ ap (λ (b : Bool). b && is_some (fold_package meta (model_of meta s.history w) (x ∷ xs))) can;
 }
 
 pub taker : (s : State) (meta : Meta) (ws : ℕ) (os : List Operation) → s.meta ≡ Some meta → can_take s.meta (workspace_of s ws) os ≡ true → Taker s meta ws os
-taker s meta ws os begun can = taker_by s meta ws os (workspace_of s ws) begun refl (subst (λ (m : Option Meta). can_take m (workspace_of s ws) os ≡ true) begun can)
+taker s meta ws os begun can =
+    taker_by s meta ws os (workspace_of s ws) begun refl (subst (λ (m : Option Meta). can_take m (workspace_of s ws) os ≡ true) begun can)
 
 -- one that takes operations is there
 pub taker_there : (m : Option Meta) (o : Option Workspace) (os : List Operation) → can_take m o os ≡ true → is_some o ≡ true
@@ -39,14 +43,19 @@ taker_there (Some meta) None os can = absurd cc
 taker_there (Some meta) (Some w) os can = refl
 
 -- operations that it doesn't take are no event that could be made
-pub not_taken : (s : State) (ws : ℕ) (os : List Operation) (m : Option Meta) (o : Option Workspace) → s.meta ≡ m → workspace_of s ws ≡ o → can_take m o os ≡ false → playable_with s s.meta (Edit ws os) ≡ false
+pub not_taken : (s : State) (ws : ℕ) (os : List Operation) (m : Option Meta) (o : Option Workspace) → s.meta ≡ m → workspace_of s ws ≡ o
+    → can_take m o os ≡ false → playable_with s s.meta (Edit ws os) ≡ false
 not_taken s ws os None o begun there can = ap (λ (m : Option Meta). playable_with s m (Edit ws os)) begun
-not_taken s ws os (Some meta) None begun there can = ap (λ (m : Option Meta). playable_with s m (Edit ws os)) begun ∙ ap (λ (o : Option Workspace). can_follow meta s.history o os) there
-not_taken s ws [] (Some meta) (Some w) begun there can = ap (λ (m : Option Meta). playable_with s m (Edit ws [])) begun ∙ ap (λ (o : Option Workspace). can_follow meta s.history o []) there
+not_taken s ws os (Some meta) None begun there can =
+    ap (λ (m : Option Meta). playable_with s m (Edit ws os)) begun ∙ ap (λ (o : Option Workspace). can_follow meta s.history o os) there
+not_taken s ws [] (Some meta) (Some w) begun there can =
+    ap (λ (m : Option Meta). playable_with s m (Edit ws [])) begun ∙ ap (λ (o : Option Workspace). can_follow meta s.history o []) there
 not_taken s ws (x ∷ xs) (Some meta) (Some w) begun there can =
-    ap (λ (m : Option Meta). playable_with s m (Edit ws (x ∷ xs))) begun ∙ ap (λ (o : Option Workspace). can_follow meta s.history o (x ∷ xs)) there ∙ ap (λ (b : Bool). b && is_some (fold_package meta (model_of meta s.history w) (x ∷ xs))) can
+    ap (λ (m : Option Meta). playable_with s m (Edit ws (x ∷ xs))) begun ∙ ap (λ (o : Option Workspace). can_follow meta s.history o (x ∷ xs)) there
+    ∙ ap (λ (b : Bool). b && is_some (fold_package meta (model_of meta s.history w) (x ∷ xs))) can
 
-module _ (s : State) (meta : Meta) (ws : ℕ) (os : List Operation) (begun : s.meta ≡ Some meta) (t : Taker s meta ws os) (m : models.State) (is : IsWorkingModel s ws m) where
+module _ (s : State) (meta : Meta) (ws : ℕ) (os : List Operation) (begun : s.meta ≡ Some meta) (t : Taker s meta ws os) (m : models.State)
+    (is : IsWorkingModel s ws m) where
   at : m ≡ model_of meta s.history t.workspace
   at = (is meta t.workspace begun t.there).0
 

@@ -18,7 +18,14 @@ plain_composite c = record { name = c.name; steps = c.steps.items }
 
 -- a workspace as the plain repository has it, without its model
 abbrev pub plain_of : Workspace → plain.Workspace
-plain_of w = record { branch = w.branch; base = w.base; operations = w.operations.items; composite = option_map plain_composite w.composite; pending = w.pending }
+plain_of w = record {
+  branch = w.branch;
+  base = w.base;
+  operations = w.operations.items;
+  composite = option_map plain_composite w.composite;
+  pending =
+      w.pending;
+}
 
 -- the same, where the workspace is there
 abbrev pub plain_any : Option Workspace → Option plain.Workspace

@@ -15,4 +15,5 @@ can_take meta w operations = false
 
 -- the operations lead from the working model of the workspace of that number to a model, which is good
 abbrev pub LeadTo : State → ℕ → List Operation → models.State → Type 0
-LeadTo s ws operations m = (meta : Meta) (w : Workspace) → s.meta ≡ Some meta → workspace_of s ws ≡ Some w → (fold_package meta (model_of meta s.history w) operations ≡ Some m) × Good meta m
+LeadTo s ws operations m = (meta : Meta) (w : Workspace) → s.meta ≡ Some meta → workspace_of s ws ≡ Some w
+    → (fold_package meta (model_of meta s.history w) operations ≡ Some m) × Good meta m

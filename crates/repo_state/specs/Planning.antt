@@ -43,8 +43,10 @@ taken_up more version w = record w { operations = w.operations ++ more; pending 
 
 -- the operations lead to the working model of the workspace of that number, as its own do
 abbrev pub KeepModel : State → ℕ → List Operation → Type 0
-KeepModel s ws operations = (meta : Meta) (w : Workspace) → s.meta ≡ Some meta → workspace_of s ws ≡ Some w → folded meta s.history (replaced operations w) ≡ folded meta s.history w
+KeepModel s ws operations = (meta : Meta) (w : Workspace) → s.meta ≡ Some meta → workspace_of s ws ≡ Some w
+    → folded meta s.history (replaced operations w) ≡ folded meta s.history w
 
 -- the operations lead from the state of the base of the workspace of that number to the state of the version
 abbrev pub AreTheirs : State → ℕ → ℕ → List Operation → Type 0
-AreTheirs s ws version theirs = (meta : Meta) (w : Workspace) → s.meta ≡ Some meta → workspace_of s ws ≡ Some w → fold_package meta (state_of meta s.history w.base) theirs ≡ Some (state_of meta s.history version)
+AreTheirs s ws version theirs = (meta : Meta) (w : Workspace) → s.meta ≡ Some meta → workspace_of s ws ≡ Some w
+    → fold_package meta (state_of meta s.history w.base) theirs ≡ Some (state_of meta s.history version)

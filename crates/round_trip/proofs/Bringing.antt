@@ -28,7 +28,8 @@ use Rattle.import_laws.specs.News.{place_of, rank_of}
 use Rattle.import_laws.proofs.Indexed.{drop_none}
 use Rattle.round_trip.specs.Laws.{DescriptionsAreShown}
 use Rattle.round_trip.specs.Describes.{Describes}
-use Rattle.round_trip.proofs.BringingMaps.{from_has, kinds_are, none_within, places_are, set_from, values_are, values_have, within_from, within_is, within_values}
+use Rattle.round_trip.proofs.BringingMaps.{from_has, kinds_are, none_within, places_are, set_from, values_are, values_have, within_from, within_is}
+use Rattle.round_trip.proofs.BringingMaps.{within_values}
 use Rattle.round_trip.proofs.BringingNames.{HasRow, before, child_few, child_stands, live_row, names_apart, told_at}
 use Rattle.round_trip.proofs.BringingRanks.{ranks_are}
 use Rattle.round_trip.proofs.BringingRows.{targets_same}
@@ -55,7 +56,8 @@ set_values : (o : Option (List Value)) (v : Value) (vs : List Value) → unwrap_
 set_values None v vs is = cc
 set_values (Some ws) v vs is = ap (λ xs. Some xs) is
 
-module _ (meta : Meta) (m : State) (good : Good meta m) (names : List IdBytes) (rows : List DocRow) (fit : DocumentFits meta rows) (tells : Describes m names rows) (few : length rows < most_entries) where
+module _ (meta : Meta) (m : State) (good : Good meta m) (names : List IdBytes) (rows : List DocRow) (fit : DocumentFits meta rows)
+    (tells : Describes m names rows) (few : length rows < most_entries) where
   differ : ids_differ names ≡ true
   differ = names_apart m names rows tells fit.ids_apart
 
@@ -64,11 +66,15 @@ module _ (meta : Meta) (m : State) (good : Good meta m) (names : List IdBytes) (
 
   -- ---- classes and places
   -- an entry at each row's name
-  at_row : {X : Type 0} (value : DocRow → X) (told : IdBytes → Option X) → ((i : ℕ) (r : DocRow) → slice_get rows i ≡ Some r → told (name_at names i) ≡ Some (value r)) → ((e : IdBytes) → is_some (told e) ≡ true → HasRow names rows e)
+  at_row : {X : Type 0} (value : DocRow → X) (told : IdBytes → Option X)
+      → ((i : ℕ) (r : DocRow) → slice_get rows i ≡ Some r → told (name_at names i) ≡ Some (value r))
+      → ((e : IdBytes) → is_some (told e) ≡ true → HasRow names rows e)
       → (e : IdBytes) → get (set_from names value 0 empty rows) e ≡ told e
   at_row value told each rowed e =
       within_is told (set_from names value 0 empty rows) (within_from names value told rows each rows 0 empty (drop_none rows) (none_within id_cmp told)) e
-      (λ there. let row = rowed e there in ap (λ z. is_some (get (set_from names value 0 empty rows) z)) row.named ∙ from_has names value rows 0 empty row.row row.r row.is_row row.row (own row.row))
+      (λ there. let row = rowed e there
+      in ap (λ z. is_some (get (set_from names value 0 empty rows) z)) row.named
+      ∙ from_has names value rows 0 empty row.row row.r row.is_row row.row (own row.row))
     where
       own : (i : ℕ) → i ≡ 0 + i
       own i = omega arith
@@ -76,7 +82,8 @@ module _ (meta : Meta) (m : State) (good : Good meta m) (names : List IdBytes) (
   kinds_same : kinds_from names 0 empty rows ≡ m.kind
   kinds_same =
       kinds_are names rows 0 empty
-      ∙ same id_order (set_from names (λ (r : DocRow). r.class) 0 empty rows) m.kind (at_row (λ (r : DocRow). r.class) (λ e. get m.kind e) (λ i r is. (told_at m names rows tells i r is).class) has_row)
+      ∙ same id_order (set_from names (λ (r : DocRow). r.class) 0 empty rows) m.kind
+      (at_row (λ (r : DocRow). r.class) (λ e. get m.kind e) (λ i r is. (told_at m names rows tells i r is).class) has_row)
 
   placed_live : (c : Option ℕ) (o : Option Place) (r : Option ℕ) → PlaceOk meta m.kind c o r → is_some o ≡ true → is_some c ≡ true
   placed_live (Some c) o r ok there = refl
@@ -92,14 +99,17 @@ module _ (meta : Meta) (m : State) (good : Good meta m) (names : List IdBytes) (
       (λ e there. has_row e (placed_live (get m.kind e) (get m.place e) (get m.prank e) (good.places.stands e) there)))
 
   -- ---- values
-  attr_told : (i : ℕ) (r : DocRow) → slice_get rows i ≡ Some r → (k : ℕ) (a : DocAttr) → slice_get r.attrs k ≡ Some a → get m.attr (name_at names i, a.feature) ≡ Some a.values
+  attr_told : (i : ℕ) (r : DocRow) → slice_get rows i ≡ Some r → (k : ℕ) (a : DocAttr) → slice_get r.attrs k ≡ Some a
+      → get m.attr (name_at names i, a.feature) ≡ Some a.values
   attr_told i r is k a at =
       let row = fit.each i r is in
       let some = some_values meta (kind_of meta a.feature) (upper_of meta a.feature) a.values (row.attrs k a at).1 in
-      set_values (get m.attr (name_at names i, a.feature)) some.first some.more (sym ((told_at m names rows tells i r is).values a.feature) ∙ values_are r.attrs k a row.attrs_apart at ∙ some.is)
+      set_values (get m.attr (name_at names i, a.feature)) some.first some.more
+      (sym ((told_at m names rows tells i r is).values a.feature) ∙ values_are r.attrs k a row.attrs_apart at ∙ some.is)
       ∙ ap (λ vs. Some vs) (sym some.is)
 
-  attr_there : (e : IdBytes) (f : ℕ) (c : Option ℕ) (o : Option (List Value)) → get m.kind e ≡ c → get m.attr (e, f) ≡ o → AttrOk meta c f o → is_some o ≡ true → is_some (get (attrs_from names 0 empty rows) (e, f)) ≡ true
+  attr_there : (e : IdBytes) (f : ℕ) (c : Option ℕ) (o : Option (List Value)) → get m.kind e ≡ c → get m.attr (e, f) ≡ o → AttrOk meta c f o
+      → is_some o ≡ true → is_some (get (attrs_from names 0 empty rows) (e, f)) ≡ true
   attr_there e f c None live is ok there = cc
   attr_there e f None (Some vs) live is ok there = absurd ok
   attr_there e f (Some c) (Some vs) live is ok there =
@@ -107,14 +117,17 @@ module _ (meta : Meta) (m : State) (good : Good meta m) (names : List IdBytes) (
       let some = some_values meta (kind_of meta f) (upper_of meta f) vs ok.1 in
       ap (λ z. is_some (get (attrs_from names 0 empty rows) (z, f))) row.named
       ∙ values_have names f some.first some.more rows 0 empty row.row row.r row.is_row
-      ((told_at m names rows tells row.row row.r row.is_row).values f ∙ ap (λ z. values_at m z f) (sym row.named) ∙ ap (λ o. unwrap_or o []) is ∙ some.is) row.row (own row.row)
+      ((told_at m names rows tells row.row row.r row.is_row).values f ∙ ap (λ z. values_at m z f) (sym row.named) ∙ ap (λ o. unwrap_or o []) is
+      ∙ some.is) row.row (own row.row)
     where
       own : (i : ℕ) → i ≡ 0 + i
       own i = omega arith
 
   attrs_same : (e : IdBytes) (f : ℕ) → get (attrs_from names 0 empty rows) (e, f) ≡ get m.attr (e, f)
   attrs_same e f =
-      within_is (λ (q : AttrKey). get m.attr q) (attrs_from names 0 empty rows) (within_values names (λ (q : AttrKey). get m.attr q) rows attr_told rows 0 empty (drop_none rows) (none_within attr_cmp (λ (q : AttrKey). get m.attr q))) (e, f)
+      within_is (λ (q : AttrKey). get m.attr q) (attrs_from names 0 empty rows)
+      (within_values names (λ (q : AttrKey). get m.attr q) rows attr_told rows 0 empty (drop_none rows)
+      (none_within attr_cmp (λ (q : AttrKey). get m.attr q))) (e, f)
       (attr_there e f (get m.kind e) (get m.attr (e, f)) refl refl (good.attrs.typed e f))
 
   -- ---- the elements of each place

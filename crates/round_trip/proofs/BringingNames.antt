@@ -1,5 +1,6 @@
 -- The names of rows that describe a model. No two are the same, each element has one, and they stand in the order of the lists.
-use Rattle.std.proofs.Common.{◌≡◌, ◌∙◌, ℕ, zero, suc, ◌+◌, ◌<◌, ◌≤◌, Bool, true, false, cond, ◌&&◌, not, List, [], ◌∷◌, ◌++◌, drop, length, take, nat_eq, refl, sym, ap, subst, arith, rules}
+use Rattle.std.proofs.Common.{◌≡◌, ◌∙◌, ℕ, zero, suc, ◌+◌, ◌<◌, ◌≤◌, Bool, true, false, cond, ◌&&◌, not, List, [], ◌∷◌, ◌++◌, drop, length, take}
+use Rattle.std.proofs.Common.{nat_eq, refl, sym, ap, subst, arith, rules}
 use Rattle.std.specs.Prelude.{Option, None, Some, is_some, slice_get}
 use Rattle.std.specs.List.{count_by, list_any}
 use Rattle.std.specs.FinMap.{get}
@@ -35,7 +36,8 @@ use Rattle.round_trip.proofs.ListsInOrder.{any_id, any_index}
 
 -- ---- no two names are the same
 -- a name that none of the rows gives is none of theirs
-none_gives : (e : IdBytes) (rest : List DocRow) (es : List IdBytes) → length es ≡ length rest → ((n : ℕ) (r : DocRow) (x : IdBytes) → slice_get rest n ≡ Some r → slice_get es n ≡ Some x → r.id ≡ Some x) → list_any (gives_id e) rest ≡ false
+none_gives : (e : IdBytes) (rest : List DocRow) (es : List IdBytes) → length es ≡ length rest
+    → ((n : ℕ) (r : DocRow) (x : IdBytes) → slice_get rest n ≡ Some r → slice_get es n ≡ Some x → r.id ≡ Some x) → list_any (gives_id e) rest ≡ false
     → list_any (text_eq e) es ≡ false
 none_gives e rest [] many each h = refl
 none_gives e [] (x ∷ es) many each h = absurd (omega (arith, many))
@@ -43,12 +45,15 @@ none_gives e (r ∷ rest) (x ∷ es) many each h =
     or_none (text_eq e x) _ (sym (ap (option_eq text_eq (Some e)) (each 0 r x refl refl)) ∙ or_first (gives_id e r) _ h)
     (none_gives e rest es (omega (arith, many)) (λ n. each (suc n)) (or_second (gives_id e r) _ h))
 
-names_differ : (rest : List DocRow) (es : List IdBytes) → length es ≡ length rest → ((n : ℕ) (r : DocRow) (x : IdBytes) → slice_get rest n ≡ Some r → slice_get es n ≡ Some x → r.id ≡ Some x) → ids_repeat rest ≡ false → ids_differ es ≡ true
+names_differ : (rest : List DocRow) (es : List IdBytes) → length es ≡ length rest
+    → ((n : ℕ) (r : DocRow) (x : IdBytes) → slice_get rest n ≡ Some r → slice_get es n ≡ Some x → r.id ≡ Some x) → ids_repeat rest ≡ false
+    → ids_differ es ≡ true
 names_differ rest [] many each h = refl
 names_differ [] (x ∷ es) many each h = absurd (omega (arith, many))
 names_differ (r ∷ rest) (x ∷ es) many each h =
     and_both (not (list_any (text_eq x) es)) (ids_differ es)
-    (not_false _ (none_gives x rest es (omega (arith, many)) (λ n. each (suc n)) (ap (λ o. is_given o rest) (sym (each 0 r x refl refl)) ∙ or_first (is_given r.id rest) _ h)))
+    (not_false _ (none_gives x rest es (omega (arith, many)) (λ n. each (suc n))
+    (ap (λ o. is_given o rest) (sym (each 0 r x refl refl)) ∙ or_first (is_given r.id rest) _ h)))
     (names_differ rest es (omega (arith, many)) (λ n. each (suc n)) (or_second (is_given r.id rest) _ h))
 
 -- where a name stands among the names
@@ -102,7 +107,8 @@ module _ (names : List IdBytes) (rows : List DocRow) where
   abbrev pub before : Place → ℕ → ℕ
   before p n = tally (λ (r : DocRow). place_eq (place_of names r.parent) p) (take n rows)
 
-  pub before_next : (p : Place) (n : ℕ) (r : DocRow) (rest : List DocRow) → drop n rows ≡ r ∷ rest → (b : Bool) → place_eq (place_of names r.parent) p ≡ b → before p (suc n) ≡ before p n + cond b 1 0
+  pub before_next : (p : Place) (n : ℕ) (r : DocRow) (rest : List DocRow) → drop n rows ≡ r ∷ rest → (b : Bool)
+      → place_eq (place_of names r.parent) p ≡ b → before p (suc n) ≡ before p n + cond b 1 0
   before_next p n r rest left b is =
       ap (tally (λ (r : DocRow). place_eq (place_of names r.parent) p)) (take_next n rows r rest left)
       ∙ tally_append (λ (r : DocRow). place_eq (place_of names r.parent) p) (take n rows) (r ∷ [])
@@ -141,17 +147,21 @@ module _ (names : List IdBytes) (rows : List DocRow) where
 
       none : (k : ℕ) → k + 0 ≡ k
       none k = omega arith
-  stands_first p r rest n left here later (suc j) x is k at = later j x is k (next k (before p n) (before p (suc n)) j at (before_next p n r rest left true here))
+  stands_first p r rest n left here later (suc j) x is k at =
+      later j x is k (next k (before p n) (before p (suc n)) j at (before_next p n r rest left true here))
     where
       next : (k b c j : ℕ) → k ≡ b + suc j → c ≡ b + 1 → k ≡ c + j
       next k b c j h g = omega arith
 
-  pub stands_as : (p : Place) (rest : List DocRow) (n : ℕ) → drop n rows ≡ rest → (j : ℕ) (x : IdBytes) → slice_get (standing_in names p n rest) j ≡ Some x → (k : ℕ) → k ≡ before p n + j → StandsAs p k x
+  pub stands_as : (p : Place) (rest : List DocRow) (n : ℕ) → drop n rows ≡ rest → (j : ℕ) (x : IdBytes)
+      → slice_get (standing_in names p n rest) j ≡ Some x → (k : ℕ) → k ≡ before p n + j → StandsAs p k x
   stands_as p [] n left j x is k at = cc
   stands_as p (r ∷ rest) n left j x is k at =
-      elim (place_eq (place_of names r.parent) p) as (λ b. place_eq (place_of names r.parent) p ≡ b → slice_get (cond b (name_at names n ∷ standing_in names p (suc n) rest) (standing_in names p (suc n) rest)) j ≡ Some x → StandsAs p k x) [
+      elim (place_eq (place_of names r.parent) p) as (λ b. place_eq (place_of names r.parent) p ≡ b
+      → slice_get (cond b (name_at names n ∷ standing_in names p (suc n) rest) (standing_in names p (suc n) rest)) j ≡ Some x → StandsAs p k x) [
         | true ↦ λ here is. stands_first p r rest n left here (stands_as p rest (suc n) (drop_next n rows r rest left)) j x is k at
-        | false ↦ λ other is. stands_as p rest (suc n) (drop_next n rows r rest left) j x is k (next k (before p n) (before p (suc n)) j at (before_next p n r rest left false other))
+        | false ↦ λ other is. stands_as p rest (suc n) (drop_next n rows r rest left) j x is k
+            (next k (before p n) (before p (suc n)) j at (before_next p n r rest left false other))
       ] refl is
     where
       next : (k b c j : ℕ) → k ≡ b + j → c ≡ b + 0 → k ≡ c + j
@@ -162,7 +172,8 @@ module _ (names : List IdBytes) (rows : List DocRow) where
   standing_few p [] n = omega arith
   standing_few p (r ∷ rest) n =
       let more = standing_few p rest (suc n) in
-      elim (place_eq (place_of names r.parent) p) as (λ b. length (cond b (name_at names n ∷ standing_in names p (suc n) rest) (standing_in names p (suc n) rest)) ≤ suc (length rest)) [
+      elim (place_eq (place_of names r.parent) p) as (λ b.
+      length (cond b (name_at names n ∷ standing_in names p (suc n) rest) (standing_in names p (suc n) rest)) ≤ suc (length rest)) [
         | true ↦ omega (arith, more)
         | false ↦ omega (arith, more)
       ]
@@ -191,9 +202,11 @@ module _ (names : List IdBytes) (differ : ids_differ names ≡ true) where
     row_in_range : (i : ℕ) (r : DocRow) → slice_get rows i ≡ Some r → InRange r.parent
     row_in_range i r is = in_range r.class r.parent (fit.each i r is).stands
 
-    pub standing_before : (n : ℕ) (i : ℕ) (r : DocRow) → slice_get rows i ≡ Some r → standing r.parent (take n rows) ≡ before names rows (place_of names r.parent) n
+    pub standing_before : (n : ℕ) (i : ℕ) (r : DocRow) → slice_get rows i ≡ Some r
+        → standing r.parent (take n rows) ≡ before names rows (place_of names r.parent) n
     standing_before n i r is =
-        counted (λ (x : DocRow). option_eq parent_eq x.parent r.parent) (λ (x : DocRow). place_eq (place_of names x.parent) (place_of names r.parent)) (take n rows)
+        counted (λ (x : DocRow). option_eq parent_eq x.parent r.parent) (λ (x : DocRow). place_eq (place_of names x.parent) (place_of names r.parent))
+        (take n rows)
         (λ j x at. same_parents x.parent r.parent (row_in_range j x (take_in n rows j x at)) (row_in_range i r is))
 
 -- ---- each row describes its element, and each element has a row
@@ -220,10 +233,13 @@ module _ (m : State) (names : List IdBytes) (rows : List DocRow) (tells : Descri
       (sym (any_id e (children m.place m.prank p))
       ∙ any-in_order entry_cmp (λ (x : Entry). text_eq e x.id) _
       ∙ any-map (λ (x : Entry). text_eq e x.id) (λ (s : IdBytes × Place). record { rank = rank_at m.prank s.0; id = s.0 }) _
-      ∙ picked_has id_order (λ (s : IdBytes × Place). place_eq p s.1) m.place (λ (s : IdBytes × Place). text_eq e s.0) e p is (place_equality.own p) (text_equality.own e))
+      ∙ picked_has id_order (λ (s : IdBytes × Place). place_eq p s.1) m.place (λ (s : IdBytes × Place). text_eq e s.0) e p is (place_equality.own p)
+      (text_equality.own e))
 
   pub child_stands : (p : Place) (j : ℕ) (e : IdBytes) → slice_get (child_ids m p) j ≡ Some e → StandsAs names rows p j e
-  child_stands p j e is = stands_as names rows p rows 0 (drop_none rows) j e (ap (λ xs. slice_get xs j) (tells.lists p) ∙ is) j (none (before names rows p 0) j (before_few names rows p 0))
+  child_stands p j e is =
+      stands_as names rows p rows 0 (drop_none rows) j e (ap (λ xs. slice_get xs j) (tells.lists p) ∙ is) j
+      (none (before names rows p 0) j (before_few names rows p 0))
     where
       none : (b j : ℕ) → b ≤ 0 → j ≡ b + j
       none b j h = omega arith

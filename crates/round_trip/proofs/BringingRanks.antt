@@ -1,6 +1,7 @@
 -- The ranks of elements that are brought into the empty project. Each is that of a new list, by how many rows stand before it in
 -- its place.
-use Rattle.std.proofs.Common.{◌≡◌, ◌∙◌, ℕ, zero, suc, ◌+◌, ◌*◌, ◌<◌, ◌≤◌, true, false, List, [], ◌∷◌, ◌++◌, drop, length, map, take, refl, sym, ap, subst, arith}
+use Rattle.std.proofs.Common.{◌≡◌, ◌∙◌, ℕ, zero, suc, ◌+◌, ◌*◌, ◌<◌, ◌≤◌, true, false, List, [], ◌∷◌, ◌++◌, drop, length, map, take, refl, sym, ap}
+use Rattle.std.proofs.Common.{subst, arith}
 use Rattle.std.specs.Prelude.{Bool, Option, Some, Ok, Err, is_some, slice_get, option_map, if◌then◌else◌}
 use Rattle.std.specs.List.{AllByRecursion, filter}
 use Rattle.std.specs.FinMap.{empty, entries, get, get-empty}
@@ -36,12 +37,15 @@ rank_is : (k : ℕ) → k < most_entries → rank_of k ≡ (k + 1) * rank_gap
 rank_is k small = omega arith
 
 -- ---- entries that are spread evenly, and one more
-ranks_last : (n : ℕ) (xs : List Entry) (y : Entry) → ranks_of xs ≡ evened n xs → y.rank ≡ (n + length xs) * rank_gap → ranks_of (xs ++ y ∷ []) ≡ evened n (xs ++ y ∷ [])
+ranks_last : (n : ℕ) (xs : List Entry) (y : Entry) → ranks_of xs ≡ evened n xs → y.rank ≡ (n + length xs) * rank_gap
+    → ranks_of (xs ++ y ∷ []) ≡ evened n (xs ++ y ∷ [])
 ranks_last n [] y even is = ap (λ r. r ∷ []) (is ∙ ap (λ k. k * rank_gap) (none n))
   where
     none : (n : ℕ) → n + 0 ≡ n
     none n = omega arith
-ranks_last n (x ∷ xs) y even is = λ i. first x.rank (n * rank_gap) (ranks_of xs) (evened (n + 1) xs) even i ∷ ranks_last (n + 1) xs y (second x.rank (n * rank_gap) (ranks_of xs) (evened (n + 1) xs) even) (is ∙ ap (λ k. k * rank_gap) (moved n (length xs))) i
+ranks_last n (x ∷ xs) y even is =
+    λ i. first x.rank (n * rank_gap) (ranks_of xs) (evened (n + 1) xs) even i ∷ ranks_last (n + 1) xs y
+    (second x.rank (n * rank_gap) (ranks_of xs) (evened (n + 1) xs) even) (is ∙ ap (λ k. k * rank_gap) (moved n (length xs))) i
   where
     first : (a b : ℕ) (us vs : List ℕ) → ◌≡◌ {A = List ℕ} (a ∷ us) (b ∷ vs) → a ≡ b
     first a b us vs h = cc
@@ -73,7 +77,8 @@ ranked_grow : (xs : List Entry) (prank : Ranks) (q : IdBytes) → is_some (get p
 ranked_grow [] prank q there = there
 ranked_grow (x ∷ xs) prank q there = ranked_grow xs (set prank x.id (Some x.rank)) q (set_grows id_order prank x.id x.rank q there)
 
-module _ (meta : Meta) (names : List IdBytes) (rows : List DocRow) (fit : DocumentFits meta rows) (as_many : length names ≡ length rows) (differ : ids_differ names ≡ true) (few : length rows < most_entries) where
+module _ (meta : Meta) (names : List IdBytes) (rows : List DocRow) (fit : DocumentFits meta rows) (as_many : length names ≡ length rows)
+    (differ : ids_differ names ≡ true) (few : length rows < most_entries) where
   -- the rank of the i-th row, by how many stand before it in its place
   abbrev pub rank_at_row : ℕ → Option ℕ
   rank_at_row i = option_map (λ (r : DocRow). rank_of (before names rows (place_of names r.parent) i)) (slice_get rows i)
@@ -82,7 +87,8 @@ module _ (meta : Meta) (names : List IdBytes) (rows : List DocRow) (fit : Docume
   abbrev pub rank_told : IdBytes → Option ℕ
   rank_told e = rank_at_row (index_of e names)
 
-  pub rank_named : (i : ℕ) (r : DocRow) → slice_get rows i ≡ Some r → rank_told (name_at names i) ≡ Some (rank_of (before names rows (place_of names r.parent) i))
+  pub rank_named : (i : ℕ) (r : DocRow) → slice_get rows i ≡ Some r
+      → rank_told (name_at names i) ≡ Some (rank_of (before names rows (place_of names r.parent) i))
   rank_named i r is =
       let less = at_less rows i r is in
       ap rank_at_row (index_named names differ i (omega (arith, less, as_many)))
@@ -108,7 +114,8 @@ module _ (meta : Meta) (names : List IdBytes) (rows : List DocRow) (fit : Docume
     abbrev e : IdBytes
     e = name_at names n
 
-    root_came : (xs : List Entry) (prank : Ranks) (k : ℕ) → place_of names r.parent ≡ Root → Roots n xs → Came (suc n) (roots_after xs Root e) e prank (ranks_after xs Root e k prank)
+    root_came : (xs : List Entry) (prank : Ranks) (k : ℕ) → place_of names r.parent ≡ Root → Roots n xs
+        → Came (suc n) (roots_after xs Root e) e prank (ranks_after xs Root e k prank)
     root_came xs prank k is roots =
         let many = roots.many in
         let less = drop_less n rows r rest left in
@@ -133,7 +140,8 @@ module _ (meta : Meta) (names : List IdBytes) (rows : List DocRow) (fit : Docume
             many = omega (arith, size, many, next);
             each = all_last (λ (x : Entry). rank_told x.id ≡ Some x.rank) xs last roots.each told;
           };
-          inside = λ inside. within_set id_order rank_told (ranked_places xs (ranks_of xs) prank) e rank (ranked_within rank_told xs prank inside roots.each) told;
+          inside = λ inside. within_set id_order rank_told (ranked_places xs (ranks_of xs) prank) e rank
+              (ranked_within rank_told xs prank inside roots.each) told;
           grows = λ q there. set_grows id_order (ranked_places xs (ranks_of xs) prank) e rank q (ranked_grow xs prank q there);
           here = set_here id_order (ranked_places xs (ranks_of xs) prank) e rank;
         })
@@ -141,12 +149,14 @@ module _ (meta : Meta) (names : List IdBytes) (rows : List DocRow) (fit : Docume
         turned : (k : ℕ) → k + 1 ≡ 1 + k
         turned k = omega arith
 
-    inside_came : (a : IdBytes) (f : ℕ) (xs : List Entry) (prank : Ranks) (k : ℕ) → place_of names r.parent ≡ Inside a f → k ≡ before names rows (Inside a f) n → Roots n xs
+    inside_came : (a : IdBytes) (f : ℕ) (xs : List Entry) (prank : Ranks) (k : ℕ) → place_of names r.parent ≡ Inside a f
+        → k ≡ before names rows (Inside a f) n → Roots n xs
         → Came (suc n) (roots_after xs (Inside a f) e) e prank (ranks_after xs (Inside a f) e k prank)
     inside_came a f xs prank k is stand roots =
         let next = before_next names rows Root n r rest left false (ap (λ p. place_eq p Root) is) in
         let many = roots.many in
-        let told : rank_told e ≡ Some (rank_of k) = rank_named n r at ∙ ap (λ p. Some (rank_of (before names rows p n))) is ∙ ap (λ j. Some (rank_of j)) (sym stand) in
+        let told : rank_told e ≡ Some (rank_of k) =
+        rank_named n r at ∙ ap (λ p. Some (rank_of (before names rows p n))) is ∙ ap (λ j. Some (rank_of j)) (sym stand) in
         record {
           roots = record { even = roots.even; many = omega (arith, many, next); each = roots.each };
           inside = λ inside. within_set id_order rank_told prank e (rank_of k) inside told;
@@ -154,7 +164,8 @@ module _ (meta : Meta) (names : List IdBytes) (rows : List DocRow) (fit : Docume
           here = set_here id_order prank e (rank_of k);
         }
 
-    came : (p : Place) (xs : List Entry) (prank : Ranks) (k : ℕ) → place_of names r.parent ≡ p → k ≡ before names rows p n → Roots n xs → Came (suc n) (roots_after xs p e) e prank (ranks_after xs p e k prank)
+    came : (p : Place) (xs : List Entry) (prank : Ranks) (k : ℕ) → place_of names r.parent ≡ p → k ≡ before names rows p n → Roots n xs
+        → Came (suc n) (roots_after xs p e) e prank (ranks_after xs p e k prank)
     came Root xs prank k is stand roots = root_came xs prank k is roots
     came (Inside a f) xs prank k is stand roots = inside_came a f xs prank k is stand roots
 
@@ -168,18 +179,23 @@ module _ (meta : Meta) (names : List IdBytes) (rows : List DocRow) (fit : Docume
       ap (λ (s : Spot). is_some s.rank) (kept_end xs ((length xs + 1) * rank_gap) (even_end xs roots.even small))
   root_room n r rest left xs roots (Inside a f) = refl
 
-  news_come : (rest : List DocRow) (n : ℕ) (xs : List Entry) (steps : List Step) → drop n rows ≡ rest → Roots n xs → (all : List Step) × (news_from names rows steps n xs rest ≡ Ok all)
+  news_come : (rest : List DocRow) (n : ℕ) (xs : List Entry) (steps : List Step) → drop n rows ≡ rest → Roots n xs
+      → (all : List Step) × (news_from names rows steps n xs rest ≡ Ok all)
   news_come [] n xs steps left roots = (steps, refl)
   news_come (r ∷ rest) n xs steps left roots =
       let p = place_of names r.parent in
       let k = standing r.parent (take n rows) in
       let one = came n r rest left p xs empty k refl (standing_before names differ meta rows fit as_many n n r (drop_at n rows r rest left)) roots in
-      let more = news_come rest (suc n) (roots_after xs p (name_at names n)) (steps ++ element_made xs p (name_at names n) r.class k) (drop_next n rows r rest left) one.roots in
+      let more = news_come rest (suc n) (roots_after xs p (name_at names n)) (steps ++ element_made xs p (name_at names n) r.class k)
+      (drop_next n rows r rest left) one.roots in
       (more.0, room (has_room xs p) (root_room n r rest left xs roots p) ∙ more.1)
     where
       room : (b : Bool) → b ≡ true
-          → (if b then news_from names rows (steps ++ element_made xs (place_of names r.parent) (name_at names n) r.class (standing r.parent (take n rows))) (suc n) (roots_after xs (place_of names r.parent) (name_at names n)) rest else Err Bound)
-          ≡ news_from names rows (steps ++ element_made xs (place_of names r.parent) (name_at names n) r.class (standing r.parent (take n rows))) (suc n) (roots_after xs (place_of names r.parent) (name_at names n)) rest
+          → (if b then news_from names rows
+          (steps ++ element_made xs (place_of names r.parent) (name_at names n) r.class (standing r.parent (take n rows))) (suc n)
+          (roots_after xs (place_of names r.parent) (name_at names n)) rest else Err Bound)
+          ≡ news_from names rows (steps ++ element_made xs (place_of names r.parent) (name_at names n) r.class (standing r.parent (take n rows)))
+          (suc n) (roots_after xs (place_of names r.parent) (name_at names n)) rest
       room true is = refl
       room false is = cc
 
@@ -189,7 +205,8 @@ module _ (meta : Meta) (names : List IdBytes) (rows : List DocRow) (fit : Docume
     grows : (q : IdBytes) → is_some (get old q) ≡ true → is_some (get new q) ≡ true
     has : (i : ℕ) (r : DocRow) → slice_get rest i ≡ Some r → (k : ℕ) → k ≡ n + i → is_some (get new (name_at names k)) ≡ true
 
-  all_came : (rest : List DocRow) (n : ℕ) (xs : List Entry) (prank : Ranks) → drop n rows ≡ rest → Roots n xs → AllCame n rest prank (ranks_from names rows n xs prank rest)
+  all_came : (rest : List DocRow) (n : ℕ) (xs : List Entry) (prank : Ranks) → drop n rows ≡ rest → Roots n xs
+      → AllCame n rest prank (ranks_from names rows n xs prank rest)
   all_came [] n xs prank left roots = record { inside = λ inside. inside; grows = λ q there. there; has = λ i r is k at. cc }
   all_came (r ∷ rest) n xs prank left roots =
       let p = place_of names r.parent in
@@ -200,7 +217,8 @@ module _ (meta : Meta) (names : List IdBytes) (rows : List DocRow) (fit : Docume
       record {
         inside = λ inside. more.inside (one.inside inside);
         grows = λ q there. more.grows q (one.grows q there);
-        has = has_row (ranks_after xs p e k prank) (ranks_from names rows (suc n) (roots_after xs p e) (ranks_after xs p e k prank) rest) one.here more.grows more.has;
+        has = has_row (ranks_after xs p e k prank)
+            (ranks_from names rows (suc n) (roots_after xs p e) (ranks_after xs p e k prank) rest) one.here more.grows more.has;
       }
     where
       has_row : (new last : Ranks) → is_some (get new (name_at names n)) ≡ true → ((q : IdBytes) → is_some (get new q) ≡ true → is_some (get last q) ≡ true)
@@ -218,7 +236,8 @@ module _ (meta : Meta) (names : List IdBytes) (rows : List DocRow) (fit : Docume
   -- ---- from the empty project on
   no_children : children empty empty Root ≡ []
   no_children =
-      ap (λ es. in_order entry_cmp (map (λ (e : IdBytes × Place). record { rank = rank_at empty e.0; id = e.0 }) (filter (λ (e : IdBytes × Place). place_eq Root e.1) es)))
+      ap (λ es. in_order entry_cmp
+      (map (λ (e : IdBytes × Place). record { rank = rank_at empty e.0; id = e.0 }) (filter (λ (e : IdBytes × Place). place_eq Root e.1) es)))
       (no_entries (entries empty) (entries_held id_order empty))
     where
       no_entries : (es : List (IdBytes × Place)) → AllByRecursion (λ (e : IdBytes × Place). get {R = id_cmp} empty e.0 ≡ Some e.1) es → es ≡ []
@@ -236,7 +255,8 @@ module _ (meta : Meta) (names : List IdBytes) (rows : List DocRow) (fit : Docume
   ranks_are i r is =
       let all = all_came rows 0 [] empty (drop_none rows) no_roots in
       ap (λ xs. get (ranks_from names rows 0 xs empty rows) (name_at names i)) no_children
-      ∙ within_is rank_told (ranks_from names rows 0 [] empty rows) (all.inside (none_within id_cmp rank_told)) (name_at names i) (λ _. all.has i r is i (own i))
+      ∙ within_is rank_told (ranks_from names rows 0 [] empty rows) (all.inside (none_within id_cmp rank_told)) (name_at names i)
+      (λ _. all.has i r is i (own i))
       ∙ rank_named i r is
     where
       own : (i : ℕ) → i ≡ 0 + i

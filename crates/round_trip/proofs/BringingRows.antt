@@ -67,7 +67,8 @@ distinct (b ∷ bs) ok = (none bs (not_true (list_any (nat_eq b) bs) (and_first 
     none (c ∷ cs) h = (or_first (nat_eq b c) _ h, none cs (or_second (nat_eq b c) _ h))
 
 -- ---- what stands among the targets
-held_there : (row : Rows) (a : IdBytes) (f : ℕ) (xs : List Entry) → AllByRecursion (λ (x : Entry). get row (a, f, x.id) ≡ Some x.rank) xs → (j : ℕ) (b : IdBytes) → slice_get (entry_ids xs) j ≡ Some b → is_some (get row (a, f, b)) ≡ true
+held_there : (row : Rows) (a : IdBytes) (f : ℕ) (xs : List Entry) → AllByRecursion (λ (x : Entry). get row (a, f, x.id) ≡ Some x.rank) xs
+    → (j : ℕ) (b : IdBytes) → slice_get (entry_ids xs) j ≡ Some b → is_some (get row (a, f, b)) ≡ true
 held_there row a f [] all j b is = cc
 held_there row a f (x ∷ xs) all zero b is = subst (λ z. is_some (get row (a, f, z)) ≡ true) (same_item x.id b is) (ap is_some all.0)
   where
@@ -86,7 +87,8 @@ both_so true b h k = sym (h refl)
 both_so false true h k = k refl
 both_so false false h k = refl
 
-module _ (meta : Meta) (m : State) (good : Good meta m) (names : List IdBytes) (rows : List DocRow) (fit : DocumentFits meta rows) (tells : Describes m names rows) (differ : ids_differ names ≡ true) where
+module _ (meta : Meta) (m : State) (good : Good meta m) (names : List IdBytes) (rows : List DocRow) (fit : DocumentFits meta rows)
+    (tells : Describes m names rows) (differ : ids_differ names ≡ true) where
   abbrev ts : List Turn
   ts = turns_from 0 rows
 
@@ -97,7 +99,9 @@ module _ (meta : Meta) (m : State) (good : Good meta m) (names : List IdBytes) (
   Small t = (t.row < length names) × (t.target < length names)
 
   all_small : Each Small ts
-  all_small = each_map (Sits meta rows) Small (λ t sits. (row_small m names rows tells t.row sits.source sits.is_source, row_small m names rows tells t.target sits.to sits.is_to)) ts (all_sit meta rows fit)
+  all_small = each_map (Sits meta rows) Small
+      (λ t sits. (row_small m names rows tells t.row sits.source sits.is_source, row_small m names rows tells t.target sits.to sits.is_to)) ts
+      (all_sit meta rows fit)
 
   all_held : Each (λ t. get whole (key_of names t) ≡ Some (rank_of t.index)) ts
   all_held = turns_held names differ ts empty all_small (all_alone meta rows fit)
@@ -106,12 +110,14 @@ module _ (meta : Meta) (m : State) (good : Good meta m) (names : List IdBytes) (
   in_model : Each (λ t. is_some (get m.row (key_of names t)) ≡ true) ts
   in_model = each_map (Sits meta rows) (λ t. is_some (get m.row (key_of names t)) ≡ true)
       (λ t sits.
-      held_there m.row (name_at names t.row) t.feature (targets m.row (name_at names t.row) t.feature) (targets_held m.row (name_at names t.row) t.feature) t.index (name_at names t.target)
+      held_there m.row (name_at names t.row) t.feature (targets m.row (name_at names t.row) t.feature)
+      (targets_held m.row (name_at names t.row) t.feature) t.index (name_at names t.target)
       (ap (λ xs. slice_get xs t.index) (sym ((told_at m names rows tells t.row sits.source sits.is_source).targets t.feature))
       ∙ map_at (name_at names) (targets_at t.feature sits.source.refs) t.index t.target sits.among)) ts (all_sit meta rows fit)
 
   rows_inside : (q : RowKey) → is_some (get whole q) ≡ true → is_some (get m.row q) ≡ true
-  rows_inside = covered names differ m.row ts empty (λ q there. absurd (true_false (is_some (get {R = row_cmp} empty q)) there (ap is_some (get-empty row_cmp q)))) in_model
+  rows_inside = covered names differ m.row ts empty
+      (λ q there. absurd (true_false (is_some (get {R = row_cmp} empty q)) there (ap is_some (get-empty row_cmp q)))) in_model
 
   -- ---- each list is brought in, with the ranks of a new one
   abbrev Ranked : ℕ → ℕ → ℕ → Type 0
@@ -126,17 +132,20 @@ module _ (meta : Meta) (m : State) (good : Good meta m) (names : List IdBytes) (
       (each_both (Sits meta rows) (λ t. get whole (key_of names t) ≡ Some (rank_of t.index)) ts (all_sit meta rows fit) all_held)
 
   live_row_of : (a : IdBytes) (f : ℕ) (b : IdBytes) → is_some (get m.row (a, f, b)) ≡ true → HasRow names rows a
-  live_row_of a f b there = live_row m names rows tells meta good a (live_source meta f (get m.kind a) (get m.kind b) (get m.row (a, f, b)) (good.rows.typed a f b) there)
+  live_row_of a f b there =
+      live_row m names rows tells meta good a (live_source meta f (get m.kind a) (get m.kind b) (get m.row (a, f, b)) (good.rows.typed a f b) there)
 
   target_there : (a : IdBytes) (f j : ℕ) (b : IdBytes) → slice_get (target_ids m a f) j ≡ Some b → is_some (get m.row (a, f, b)) ≡ true
   target_there a f j b is = held_there m.row a f (targets m.row a f) (targets_held m.row a f) j b is
 
-  row_ranked : (i : ℕ) (r : DocRow) → slice_get rows i ≡ Some r → (f j n : ℕ) → slice_get (targets_at f r.refs) j ≡ Some n → get whole (name_at names i, f, name_at names n) ≡ Some (rank_of j)
+  row_ranked : (i : ℕ) (r : DocRow) → slice_get rows i ≡ Some r → (f j n : ℕ) → slice_get (targets_at f r.refs) j ≡ Some n
+      → get whole (name_at names i, f, name_at names n) ≡ Some (rank_of j)
   row_ranked i r is f j n at =
       let bs = targets_at f r.refs in
       let ok = list_apart meta rows fit i r is f in
       let there : Ranked i f n = found_from Ranked rows 0 i r f n all_ranked is (any_at bs j n at) i (own i) in
-      let index : there.0 ≡ j = sym (index_is bs there.0 n ok (ap (λ refs. slice_get (targets_at f refs) there.0) (sym (refs_are i r is)) ∙ there.1)) ∙ index_is bs j n ok at in
+      let index : there.0 ≡ j =
+      sym (index_is bs there.0 n ok (ap (λ refs. slice_get (targets_at f refs) there.0) (sym (refs_are i r is)) ∙ there.1)) ∙ index_is bs j n ok at in
       there.2 ∙ ap (λ k. Some (rank_of k)) index
     where
       own : (i : ℕ) → i ≡ 0 + i
@@ -146,7 +155,8 @@ module _ (meta : Meta) (m : State) (good : Good meta m) (names : List IdBytes) (
   rows_ranked a f j b is =
       let row = live_row_of a f b (target_there a f j b is) in
       let told = (told_at m names rows tells row.row row.r row.is_row).targets f in
-      let at = of_map (name_at names) (targets_at f row.r.refs) j b (ap (λ xs. slice_get xs j) told ∙ ap (λ z. slice_get (target_ids m z f) j) (sym row.named) ∙ is) in
+      let at = of_map (name_at names) (targets_at f row.r.refs) j b
+      (ap (λ xs. slice_get xs j) told ∙ ap (λ z. slice_get (target_ids m z f) j) (sym row.named) ∙ is) in
       (λ i. get whole (row.named i, f, at.2 i)) ∙ row_ranked row.row row.r row.is_row f j at.0 at.1
 
   rows_cover : (q : RowKey) → is_some (get m.row q) ≡ true → is_some (get whole q) ≡ true
@@ -189,7 +199,8 @@ module _ (meta : Meta) (m : State) (good : Good meta m) (names : List IdBytes) (
   pub targets_same : length rows < most_entries → (a : IdBytes) (f : ℕ) → entry_ids (targets (rows_from names 0 empty rows) a f) ≡ target_ids m a f
   targets_same few a f =
       ap (λ row. entry_ids (targets row a f)) (rows_are names 0 empty rows)
-      ∙ targets_shown m.row whole a f (λ q. both_so (is_some (get whole q)) (is_some (get m.row q)) (rows_inside q) (rows_cover q)) (within (length (target_ids m a f)) (length rows) (targets_few a f) few) (rows_ranked a f)
+      ∙ targets_shown m.row whole a f (λ q. both_so (is_some (get whole q)) (is_some (get m.row q)) (rows_inside q) (rows_cover q))
+      (within (length (target_ids m a f)) (length rows) (targets_few a f) few) (rows_ranked a f)
     where
       within : (n k : ℕ) → n ≤ k → k < most_entries → n ≤ most_entries
       within n k h g = omega arith

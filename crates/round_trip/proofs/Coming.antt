@@ -41,7 +41,8 @@ given_names m all ws k [] [] as_many given = tt
 given_names m all ws k [] (x ∷ xs) as_many given = absurd cc
 given_names m all ws k (r ∷ rest) [] as_many given = absurd cc
 given_names m all ws k (r ∷ rest) (x ∷ xs) as_many given =
-    named r.id (given zero r x refl refl) (given_names m all ws k rest xs (one_less (length xs) (length rest) as_many) (λ n q e here there. given (suc n) q e here there))
+    named r.id (given zero r x refl refl)
+    (given_names m all ws k rest xs (one_less (length xs) (length rest) as_many) (λ n q e here there. given (suc n) q e here there))
   where
     one_less : (a b : ℕ) → suc a ≡ suc b → a ≡ b
     one_less a b h = omega arith
@@ -76,7 +77,8 @@ module _ (meta : Meta) (names : List IdBytes) (rows : List DocRow) (all : List S
       ∙ ap (λ (r : Result (List Step) EditFault). of_steps rows (and_then r (values_made meta names rows ++ links_made meta names rows))) come
 
 -- what rows that describe a model leave in the empty project is shown as that model
-comes : (meta : Meta) → IsMetamodel meta → (m : State) → Good meta m → (ws : ℕ) (names : List IdBytes) (rows : List DocRow) → doc_of meta (text meta m) ≡ Ok rows → Describes m names rows → length rows < most_entries → ComesBack meta ws (text meta m)
+comes : (meta : Meta) → IsMetamodel meta → (m : State) → Good meta m → (ws : ℕ) (names : List IdBytes) (rows : List DocRow)
+    → doc_of meta (text meta m) ≡ Ok rows → Describes m names rows → length rows < most_entries → ComesBack meta ws (text meta m)
 comes meta promised m good ws names rows read tells few =
     let fit = documents_fit meta promised (text meta m) rows read in
     let differ = names_apart m names rows tells fit.ids_apart in

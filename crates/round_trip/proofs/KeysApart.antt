@@ -32,11 +32,16 @@ unfolding keys_of Class
 class_number = refl
 
 module _ (meta : Meta) where
-  apart_from : (f : ℕ) (fs : List ℕ) → list_any (bytes_eq (name_at meta.features f)) (map (name_at meta.features) fs) ≡ false → AllByRecursion (NumbersApart (Feature f)) (map Feature fs)
+  apart_from : (f : ℕ) (fs : List ℕ) → list_any (bytes_eq (name_at meta.features f)) (map (name_at meta.features) fs) ≡ false
+      → AllByRecursion (NumbersApart (Feature f)) (map Feature fs)
   apart_from f [] h = tt
   apart_from f (g ∷ fs) h =
-      let parts = or_parts (bytes_eq (name_at meta.features f) (name_at meta.features g)) (list_any (bytes_eq (name_at meta.features f)) (map (name_at meta.features) fs)) h in
-      (λ x is at. bytes_differ _ _ parts.0 (ap (name_at meta.features) (two_less f x (sym (feature_number f) ∙ is) ∙ sym (two_less g x (sym (feature_number g) ∙ at)))), apart_from f fs parts.1)
+      let parts = or_parts (bytes_eq (name_at meta.features f) (name_at meta.features g))
+      (list_any (bytes_eq (name_at meta.features f)) (map (name_at meta.features) fs)) h in (
+        λ x is at. bytes_differ _ _ parts.0
+            (ap (name_at meta.features) (two_less f x (sym (feature_number f) ∙ is) ∙ sym (two_less g x (sym (feature_number g) ∙ at)))),
+        apart_from f fs parts.1,
+      )
 
   features_apart : (fs : List ℕ) → has_repeat (map (name_at meta.features) fs) ≡ false → Pairs NumbersApart (map Feature fs)
   features_apart [] h = tt
@@ -56,4 +61,5 @@ module _ (meta : Meta) where
   keys_apart named c =
       let fs = features_of meta c in
       subst (Pairs NumbersApart) (sym (keys_are meta c))
-      (pairs_in_order NumbersApart (λ k l h f is at. h f at is) (key_cmp meta) (Ident ∷ Class ∷ map Feature fs) (from_ident (Class ∷ map Feature fs), (from_class (map Feature fs), features_apart fs (named.features c))))
+      (pairs_in_order NumbersApart (λ k l h f is at. h f at is) (key_cmp meta) (Ident ∷ Class ∷ map Feature fs)
+      (from_ident (Class ∷ map Feature fs), (from_class (map Feature fs), features_apart fs (named.features c))))

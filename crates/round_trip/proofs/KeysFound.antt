@@ -1,6 +1,7 @@
 -- What stands under a key is found by the key's name, a feature by its name, and a class by its text.
 use Rattle.std.proofs.Math.Bool.{or-true}
-use Rattle.std.proofs.Common.{◌≡◌, ℕ, zero, suc, ◌==◌, ◌||◌, Bool, true, false, cond, List, [], ◌∷◌, ◌++◌, map, refl, sym, ap, subst, ◌∙◌, codes, ◌⊎◌, inl, inr, eq-eqb, append_assoc}
+use Rattle.std.proofs.Common.{◌≡◌, ℕ, zero, suc, ◌==◌, ◌||◌, Bool, true, false, cond, List, [], ◌∷◌, ◌++◌, map, refl, sym, ap, subst, ◌∙◌, codes, ◌⊎◌}
+use Rattle.std.proofs.Common.{inl, inr, eq-eqb, append_assoc}
 use Rattle.std.specs.Prelude.{Option, None, Some, option_map, option_and_then, slice_get}
 use Rattle.std.specs.declared.cmp.Ordering.{Ordering}
 use Rattle.std.specs.declared.cmp.Ordering.TheVariants.{Greater}
@@ -66,21 +67,25 @@ module _ (meta : Meta) (p : Key → Option Data) where
   past s a None ms g = refl
   past s a (Some d) ms g = ap (λ r. match_ordering r (get_member s ms) (Some d) (get_member s ms)) g
 
-  pub member_at : (ks : List Key) → InOrder meta ks → (k : Key) (d : Data) → Stands k ks → p k ≡ Some d → get_member (key_name meta k) (members (key_name meta) p ks) ≡ Some d
+  pub member_at : (ks : List Key) → InOrder meta ks → (k : Key) (d : Data) → Stands k ks → p k ≡ Some d
+      → get_member (key_name meta k) (members (key_name meta) p ks) ≡ Some d
   member_at [] order k d h is = absurd h
   member_at (l ∷ ks) order k d (inl e) is =
       ap (λ (x : Key). get_member (key_name meta k) (with_member (key_name meta x) (p x) (members (key_name meta) p ks))) (sym e)
       ∙ ap (λ o. get_member (key_name meta k) (with_member (key_name meta k) o (members (key_name meta) p ks))) is
-      ∙ ap (λ r. match_ordering r (get_member (key_name meta k) (members (key_name meta) p ks)) (Some d) (get_member (key_name meta k) (members (key_name meta) p ks))) (tied_itself nat_list_cmp_total (key_name meta k))
+      ∙ ap (λ r. match_ordering r (get_member (key_name meta k) (members (key_name meta) p ks)) (Some d)
+      (get_member (key_name meta k) (members (key_name meta) p ks))) (tied_itself nat_list_cmp_total (key_name meta k))
   member_at (l ∷ ks) order k d (inr h) is =
       past (key_name meta k) (key_name meta l) (p l) (members (key_name meta) p ks) (all_stand (IsAfter meta l) ks order.0 k h) ∙ member_at ks order.1 k d h is
 
 module _ (meta : Meta) (c : ℕ) where
   pub ident_stands : Stands Ident (keys_of meta c)
-  ident_stands = subst (Stands Ident) (sym (keys_are meta c)) (stands_in_order (key_cmp meta) Ident (Ident ∷ Class ∷ map Feature (features_of meta c)) (inl refl))
+  ident_stands = subst (Stands Ident) (sym (keys_are meta c))
+      (stands_in_order (key_cmp meta) Ident (Ident ∷ Class ∷ map Feature (features_of meta c)) (inl refl))
 
   pub class_stands : Stands Class (keys_of meta c)
-  class_stands = subst (Stands Class) (sym (keys_are meta c)) (stands_in_order (key_cmp meta) Class (Ident ∷ Class ∷ map Feature (features_of meta c)) (inr (inl refl)))
+  class_stands = subst (Stands Class) (sym (keys_are meta c))
+      (stands_in_order (key_cmp meta) Class (Ident ∷ Class ∷ map Feature (features_of meta c)) (inr (inl refl)))
 
   mapped : (f : ℕ) (fs : List ℕ) → Stands f fs → Stands (Feature f) (map Feature fs)
   mapped f [] h = absurd h
@@ -88,24 +93,33 @@ module _ (meta : Meta) (c : ℕ) where
   mapped f (g ∷ fs) (inr s) = inr (mapped f fs s)
 
   pub feature_stands : (f : ℕ) → Stands f (features_of meta c) → Stands (Feature f) (keys_of meta c)
-  feature_stands f h = subst (Stands (Feature f)) (sym (keys_are meta c)) (stands_in_order (key_cmp meta) (Feature f) (Ident ∷ Class ∷ map Feature (features_of meta c)) (inr (inr (mapped f (features_of meta c) h))))
+  feature_stands f h = subst (Stands (Feature f)) (sym (keys_are meta c))
+      (stands_in_order (key_cmp meta) (Feature f) (Ident ∷ Class ∷ map Feature (features_of meta c)) (inr (inr (mapped f (features_of meta c) h))))
 
 -- ---- features by name
 module _ (meta : Meta) where
-  any_mapped : (q : Name) (f : ℕ) (fs : List ℕ) → bytes_eq q (name_at meta.features f) ≡ true → Stands f fs → list_any (bytes_eq q) (map (name_at meta.features) fs) ≡ true
+  any_mapped : (q : Name) (f : ℕ) (fs : List ℕ) → bytes_eq q (name_at meta.features f) ≡ true → Stands f fs
+      → list_any (bytes_eq q) (map (name_at meta.features) fs) ≡ true
   any_mapped q f [] is h = absurd h
-  any_mapped q f (g ∷ fs) is (inl e) = ap (λ b. b || list_any (bytes_eq q) (map (name_at meta.features) fs)) (subst (λ x. bytes_eq q (name_at meta.features x) ≡ true) e is)
-  any_mapped q f (g ∷ fs) is (inr s) = ap (λ b. bytes_eq q (name_at meta.features g) || b) (any_mapped q f fs is s) ∙ or-true (bytes_eq q (name_at meta.features g))
+  any_mapped q f (g ∷ fs) is (inl e) =
+      ap (λ b. b || list_any (bytes_eq q) (map (name_at meta.features) fs)) (subst (λ x. bytes_eq q (name_at meta.features x) ≡ true) e is)
+  any_mapped q f (g ∷ fs) is (inr s) =
+      ap (λ b. bytes_eq q (name_at meta.features g) || b) (any_mapped q f fs is s) ∙ or-true (bytes_eq q (name_at meta.features g))
 
-  named_first : (f : ℕ) (fs : List ℕ) → has_repeat (map (name_at meta.features) fs) ≡ false → Stands f fs → first_named meta.features fs (name_at meta.features f) ≡ Some f
+  named_first : (f : ℕ) (fs : List ℕ) → has_repeat (map (name_at meta.features) fs) ≡ false → Stands f fs
+      → first_named meta.features fs (name_at meta.features f) ≡ Some f
   named_first f [] apart h = absurd h
   named_first f (g ∷ fs) apart (inl e) =
-      ap (λ b. cond b (Some g) (first_named meta.features fs (name_at meta.features f))) (subst (λ x. bytes_eq (name_at meta.features x) (name_at meta.features f) ≡ true) e (bytes_own (name_at meta.features f))) ∙ ap (λ x. Some x) (sym e)
+      ap (λ b. cond b (Some g) (first_named meta.features fs (name_at meta.features f)))
+      (subst (λ x. bytes_eq (name_at meta.features x) (name_at meta.features f) ≡ true) e (bytes_own (name_at meta.features f)))
+      ∙ ap (λ x. Some x) (sym e)
   named_first f (g ∷ fs) apart (inr s) =
-      let parts = or_parts (list_any (bytes_eq (name_at meta.features g)) (map (name_at meta.features) fs)) (has_repeat (map (name_at meta.features) fs)) apart in
+      let parts = or_parts (list_any (bytes_eq (name_at meta.features g)) (map (name_at meta.features) fs))
+      (has_repeat (map (name_at meta.features) fs)) apart in
       by_test (bytes_eq (name_at meta.features g) (name_at meta.features f)) refl parts.0 (named_first f fs parts.1 s)
     where
-      by_test : (b : Bool) → bytes_eq (name_at meta.features g) (name_at meta.features f) ≡ b → list_any (bytes_eq (name_at meta.features g)) (map (name_at meta.features) fs) ≡ false
+      by_test : (b : Bool) → bytes_eq (name_at meta.features g) (name_at meta.features f) ≡ b
+          → list_any (bytes_eq (name_at meta.features g)) (map (name_at meta.features) fs) ≡ false
           → first_named meta.features fs (name_at meta.features f) ≡ Some f → cond b (Some g) (first_named meta.features fs (name_at meta.features f)) ≡ Some f
       by_test true is none more = let there = any_mapped (name_at meta.features g) f fs is s in cc
       by_test false is none more = more
@@ -129,7 +143,8 @@ number_at (y ∷ ys) (suc n) x apart is =
     let parts = or_parts (list_any (bytes_eq y) ys) (has_repeat ys) apart in
     by_test (bytes_eq x y) refl parts.0 (number_at ys n x parts.1 is)
   where
-    by_test : (b : Bool) → bytes_eq x y ≡ b → list_any (bytes_eq y) ys ≡ false → number_of x ys ≡ Some n → cond b (Some 0) (option_map (λ n. suc n) (number_of x ys)) ≡ Some (suc n)
+    by_test : (b : Bool) → bytes_eq x y ≡ b → list_any (bytes_eq y) ys ≡ false → number_of x ys ≡ Some n
+        → cond b (Some 0) (option_map (λ n. suc n) (number_of x ys)) ≡ Some (suc n)
     by_test true e none more =
         let there : list_any (bytes_eq y) ys ≡ true = any_there (bytes_eq y) ys n x is (subst (λ z. bytes_eq z x ≡ true) (bytes_same x y e) (bytes_own x)) in
         cc
@@ -156,12 +171,14 @@ behind_own [] xs = refl
 behind_own (p ∷ ps) xs = ap (λ b. cond b (after_prefix ps (ps ++ xs)) None) (eq-eqb p p refl) ∙ behind_own ps xs
 
 module _ (meta : Meta) (named : IsNamed meta) where
-  mapped_all : (xs : List ClassOf) → AllByRecursion (λ (x : ClassOf). has_slash x.name ≡ false) xs → AllByRecursion (λ x. has_slash x ≡ false) (map (λ (x : ClassOf). x.name) xs)
+  mapped_all : (xs : List ClassOf) → AllByRecursion (λ (x : ClassOf). has_slash x.name ≡ false) xs
+      → AllByRecursion (λ x. has_slash x ≡ false) (map (λ (x : ClassOf). x.name) xs)
   mapped_all [] all = tt
   mapped_all (x ∷ xs) all = (all.0, mapped_all xs all.1)
 
   not_named : (q : Name) → has_slash q ≡ true → class_named meta q ≡ None
-  not_named q h = none_named q (map (λ (x : ClassOf). x.name) meta.classes) h (mapped_all meta.classes (all_at (λ (x : ClassOf). has_slash x.name ≡ false) meta.classes named.slashes))
+  not_named q h = none_named q (map (λ (x : ClassOf). x.name) meta.classes) h
+      (mapped_all meta.classes (all_at (λ (x : ClassOf). has_slash x.name ≡ false) meta.classes named.slashes))
 
   dropped : (b : Bool) (rest : Name) → class_named meta rest ≡ None → option_and_then (class_named meta) (cond b (Some rest) None) ≡ None
   dropped true rest h = h
@@ -177,24 +194,30 @@ module _ (meta : Meta) (named : IsNamed meta) where
 
   -- what is spelt with a slash first, or with the number sign, is no class after another text
   slashed : (a b : ℕ) (u name : Name) → class_after meta (codes "//") (a ∷ b ∷ (u ++ hashed name)) ≡ None
-  slashed a b u name = either_none (47 == a) (cond (47 == b) (Some (u ++ hashed name)) None) (dropped (47 == b) (u ++ hashed name) (not_named (u ++ hashed name) (slash_behind u (47 ∷ name))))
+  slashed a b u name = either_none (47 == a) (cond (47 == b) (Some (u ++ hashed name)) None)
+      (dropped (47 == b) (u ++ hashed name) (not_named (u ++ hashed name) (slash_behind u (47 ∷ name))))
 
   signed : (a b : ℕ) (u name : Name) → class_after meta (codes "#//") (a ∷ b ∷ (u ++ hashed name)) ≡ None
   signed a b [] name = either_none (35 == a) (cond (47 == b) None None) (either_none (47 == b) None refl)
   signed a b (x ∷ u) name =
       either_none (35 == a) (cond (47 == b) (cond (47 == x) (Some (u ++ hashed name)) None) None)
-      (either_none (47 == b) (cond (47 == x) (Some (u ++ hashed name)) None) (dropped (47 == x) (u ++ hashed name) (not_named (u ++ hashed name) (slash_behind u (47 ∷ name)))))
+      (either_none (47 == b) (cond (47 == x) (Some (u ++ hashed name)) None)
+      (dropped (47 == x) (u ++ hashed name) (not_named (u ++ hashed name) (slash_behind u (47 ∷ name)))))
 
   spelt : (u name : Name) (c : ℕ) → class_named meta name ≡ Some c
-      → or_else (class_after meta (codes "//") (u ++ hashed name)) (or_else (class_after meta (codes "#//") (u ++ hashed name)) (option_and_then (class_after meta (codes "#//")) (after_prefix u (u ++ hashed name)))) ≡ Some c
+      → or_else (class_after meta (codes "//") (u ++ hashed name))
+      (or_else (class_after meta (codes "#//") (u ++ hashed name))
+      (option_and_then (class_after meta (codes "#//")) (after_prefix u (u ++ hashed name)))) ≡ Some c
   spelt [] name c is = ap (λ o. or_else o (option_and_then (class_after meta (codes "#//")) (Some (hashed name)))) is
   spelt (a ∷ []) name c is =
-      ap (λ o. or_else o (or_else (class_after meta (codes "#//") (a ∷ hashed name)) (option_and_then (class_after meta (codes "#//")) (after_prefix (a ∷ []) (a ∷ hashed name))))) (either_none (47 == a) None refl)
+      ap (λ o. or_else o (or_else (class_after meta (codes "#//") (a ∷ hashed name))
+      (option_and_then (class_after meta (codes "#//")) (after_prefix (a ∷ []) (a ∷ hashed name))))) (either_none (47 == a) None refl)
       ∙ ap (λ o. or_else o (option_and_then (class_after meta (codes "#//")) (after_prefix (a ∷ []) (a ∷ hashed name)))) (either_none (35 == a) None refl)
       ∙ ap (option_and_then (class_after meta (codes "#//"))) (behind_own (a ∷ []) (hashed name)) ∙ is
   spelt (a ∷ b ∷ u) name c is =
       let t = a ∷ b ∷ (u ++ hashed name) in
-      ap (λ o. or_else o (or_else (class_after meta (codes "#//") t) (option_and_then (class_after meta (codes "#//")) (after_prefix (a ∷ b ∷ u) t)))) (slashed a b u name)
+      ap (λ o. or_else o (or_else (class_after meta (codes "#//") t) (option_and_then (class_after meta (codes "#//")) (after_prefix (a ∷ b ∷ u) t))))
+      (slashed a b u name)
       ∙ ap (λ o. or_else o (option_and_then (class_after meta (codes "#//")) (after_prefix (a ∷ b ∷ u) t))) (signed a b u name)
       ∙ ap (option_and_then (class_after meta (codes "#//"))) (behind_own (a ∷ b ∷ u) (hashed name)) ∙ is
 
@@ -206,7 +229,8 @@ module _ (meta : Meta) (named : IsNamed meta) where
   -- a class is the one that its text names
   pub class_again : (c : ℕ) (class : ClassOf) → slice_get meta.classes c ≡ Some class → class_spelt meta (class_text meta c) ≡ Some c
   class_again c class is =
-      let name : option_map_or (λ (x : ClassOf). x.name) (slice_get meta.classes c) [] ≡ class.name = ap (λ o. option_map_or (λ (x : ClassOf). x.name) o []) is in
+      let name : option_map_or (λ (x : ClassOf). x.name) (slice_get meta.classes c) [] ≡ class.name =
+      ap (λ o. option_map_or (λ (x : ClassOf). x.name) o []) is in
       ap (class_spelt meta) (append_assoc meta.uri (codes "#//") (option_map_or (λ (x : ClassOf). x.name) (slice_get meta.classes c) []))
       ∙ ap (λ t. class_spelt meta (meta.uri ++ hashed t)) name
       ∙ spelt meta.uri class.name c (number_at (map (λ (x : ClassOf). x.name) meta.classes) c class.name named.classes (name_of_place meta.classes c class is))

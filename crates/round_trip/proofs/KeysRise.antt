@@ -31,11 +31,13 @@ module _ (meta : Meta) where
   abbrev pub InOrder : List Key → Type 0
   InOrder ks = Pairs IsAfter ks
 
-  differ_from : (f : ℕ) (fs : List ℕ) → list_any (bytes_eq (name_at meta.features f)) (map (name_at meta.features) fs) ≡ false → AllByRecursion (Differ (Feature f)) (map Feature fs)
+  differ_from : (f : ℕ) (fs : List ℕ) → list_any (bytes_eq (name_at meta.features f)) (map (name_at meta.features) fs) ≡ false
+      → AllByRecursion (Differ (Feature f)) (map Feature fs)
   unfolding keys_of Feature
   differ_from f [] h = tt
   differ_from f (g ∷ fs) h =
-      let parts = or_parts (bytes_eq (name_at meta.features f) (name_at meta.features g)) (list_any (bytes_eq (name_at meta.features f)) (map (name_at meta.features) fs)) h in
+      let parts = or_parts (bytes_eq (name_at meta.features f) (name_at meta.features g))
+      (list_any (bytes_eq (name_at meta.features f)) (map (name_at meta.features) fs)) h in
       (bytes_differ (name_at meta.features f) (name_at meta.features g) parts.0, differ_from f fs parts.1)
 
   features_differ : (fs : List ℕ) → has_repeat (map (name_at meta.features) fs) ≡ false → Pairs Differ (map Feature fs)
@@ -46,10 +48,12 @@ module _ (meta : Meta) where
 
   module _ (named : IsNamed meta) where
     pub not_class : (f : ℕ) → codes "eClass" ≡ name_at meta.features f → ⊥
-    not_class f e = bytes_differ _ _ (or_parts (bytes_eq (name_at meta.features f) (codes "eClass")) (bytes_eq (name_at meta.features f) (codes "_id")) (named.keys f)).0 (sym e)
+    not_class f e = bytes_differ _ _
+        (or_parts (bytes_eq (name_at meta.features f) (codes "eClass")) (bytes_eq (name_at meta.features f) (codes "_id")) (named.keys f)).0 (sym e)
 
     pub not_ident : (f : ℕ) → codes "_id" ≡ name_at meta.features f → ⊥
-    not_ident f e = bytes_differ _ _ (or_parts (bytes_eq (name_at meta.features f) (codes "eClass")) (bytes_eq (name_at meta.features f) (codes "_id")) (named.keys f)).1 (sym e)
+    not_ident f e = bytes_differ _ _
+        (or_parts (bytes_eq (name_at meta.features f) (codes "eClass")) (bytes_eq (name_at meta.features f) (codes "_id")) (named.keys f)).1 (sym e)
 
     all_features : (k : Key) → ((f : ℕ) → Differ k (Feature f)) → (fs : List ℕ) → AllByRecursion (Differ k) (map Feature fs)
     all_features k h [] = tt
@@ -63,12 +67,14 @@ module _ (meta : Meta) where
     )
 
     -- what stands after and differs is above
-    is_above : (k l : Key) (r : Ordering) → slice_cmp nat_cmp (key_name meta l) (key_name meta k) ≡ r → is_lt (ordering_then r (nat_cmp (key_number l) (key_number k))) ≡ false → Differ k l → r ≡ Greater
+    is_above : (k l : Key) (r : Ordering) → slice_cmp nat_cmp (key_name meta l) (key_name meta k) ≡ r
+        → is_lt (ordering_then r (nat_cmp (key_number l) (key_number k))) ≡ false → Differ k l → r ≡ Greater
     is_above k l Less is h d = cc
     is_above k l Equal is h d = absurd (d (sym (exact_bytes (key_name meta l) (key_name meta k) is)))
     is_above k l Greater is h d = refl
 
-    all_above : (k : Key) (ls : List Key) → AllByRecursion (λ l. is_lt (key_cmp meta l k) ≡ false) ls → AllByRecursion (Differ k) ls → AllByRecursion (IsAfter k) ls
+    all_above : (k : Key) (ls : List Key) → AllByRecursion (λ l. is_lt (key_cmp meta l k) ≡ false) ls → AllByRecursion (Differ k) ls
+        → AllByRecursion (IsAfter k) ls
     all_above k [] h d = tt
     all_above k (l ∷ ls) h d = (is_above k l _ refl h.0 d.0, all_above k ls h.1 d.1)
 
@@ -79,4 +85,6 @@ module _ (meta : Meta) where
     pub keys_rise : (c : ℕ) → InOrder (keys_of meta c)
     keys_rise c =
         let all = Ident ∷ Class ∷ map Feature (features_of meta c) in
-        subst InOrder (sym (keys_are meta c)) (rising (in_order (key_cmp meta) all) (rises-in_order (key_order meta) all) (pairs_in_order Differ (λ k l d e. d (sym e)) (key_cmp meta) all (keys_differ c)))
+        subst InOrder (sym (keys_are meta c))
+        (rising (in_order (key_cmp meta) all) (rises-in_order (key_order meta) all)
+        (pairs_in_order Differ (λ k l d e. d (sym e)) (key_cmp meta) all (keys_differ c)))

@@ -67,7 +67,8 @@ module _ (rank : IdBytes → ℕ) where
   later : (x y : IdBytes) → rank x < rank y → is_lt (entry_cmp (entry_at y) (entry_at x)) ≡ false
   later x y less = ap (λ o. is_lt (ordering_then o (id_cmp y x))) (sym (nat_cmp_is (rank y) (rank x) Greater less))
 
-  behind : (x : IdBytes) (n k : ℕ) → n < k → (xs : List IdBytes) → k + length xs ≤ most_entries → rank x ≡ rank_of n → Ranked k xs → AllByRecursion (λ (y : Entry). is_lt (entry_cmp y (entry_at x)) ≡ false) (map entry_at xs)
+  behind : (x : IdBytes) (n k : ℕ) → n < k → (xs : List IdBytes) → k + length xs ≤ most_entries → rank x ≡ rank_of n → Ranked k xs
+      → AllByRecursion (λ (y : Entry). is_lt (entry_cmp y (entry_at x)) ≡ false) (map entry_at xs)
   behind x n k less [] few here all = tt
   behind x n k less (y ∷ ys) few here all =
       let up = rank_less n k less (within k (length ys) few) in
@@ -82,13 +83,15 @@ module _ (rank : IdBytes → ℕ) where
 
   pub rises_ranked : (xs : List IdBytes) (k : ℕ) → k + length xs ≤ most_entries → Ranked k xs → Rises entry_cmp (map entry_at xs)
   rises_ranked [] k few all = tt
-  rises_ranked (x ∷ xs) k few all = (behind x k (suc k) (omega arith) xs (moved k (length xs) few) all.0 all.1, rises_ranked xs (suc k) (moved k (length xs) few) all.1)
+  rises_ranked (x ∷ xs) k few all =
+      (behind x k (suc k) (omega arith) xs (moved k (length xs) few) all.0 all.1, rises_ranked xs (suc k) (moved k (length xs) few) all.1)
     where
       moved : (k n : ℕ) → k + suc n ≤ most_entries → suc k + n ≤ most_entries
       moved k n h = omega arith
 
   -- ---- a list in order whose ranks are these
-  by_id : (p : Entry → Bool) (xs : List Entry) → AllByRecursion (λ (x : Entry). x.rank ≡ rank x.id) xs → tally p xs ≡ tally (λ (x : Entry). p (entry_at x.id)) xs
+  by_id : (p : Entry → Bool) (xs : List Entry) → AllByRecursion (λ (x : Entry). x.rank ≡ rank x.id) xs
+      → tally p xs ≡ tally (λ (x : Entry). p (entry_at x.id)) xs
   by_id p [] all = refl
   by_id p (x ∷ xs) all = λ i. cond (p (record { rank = all.0 i; id = x.id })) 1 0 + by_id p xs all.1 i
 
@@ -96,7 +99,8 @@ module _ (rank : IdBytes → ℕ) where
   ids_at [] = refl
   ids_at (x ∷ xs) = ap (λ ys. x ∷ ys) (ids_at xs)
 
-  pub shown : (xs : List Entry) (ns : List IdBytes) → Rises entry_cmp xs → AllByRecursion (λ (x : Entry). x.rank ≡ rank x.id) xs → Rises entry_cmp (map entry_at ns) → ((p : IdBytes → Bool) → tally (λ (x : Entry). p x.id) xs ≡ tally p ns) → entry_ids xs ≡ ns
+  pub shown : (xs : List Entry) (ns : List IdBytes) → Rises entry_cmp xs → AllByRecursion (λ (x : Entry). x.rank ≡ rank x.id) xs
+      → Rises entry_cmp (map entry_at ns) → ((p : IdBytes → Bool) → tally (λ (x : Entry). p x.id) xs ≡ tally p ns) → entry_ids xs ≡ ns
   shown xs ns up ranks up' same =
       ap entry_ids (same_risen entry_order xs (map entry_at ns) up up' (λ p. by_id p xs ranks ∙ same (λ e. p (entry_at e)) ∙ sym (tally-map p entry_at ns)))
       ∙ ids_at ns
@@ -112,14 +116,17 @@ spots_ranked : (prank : Ranks) (es : List (IdBytes × Place)) → AllByRecursion
 spots_ranked prank [] = tt
 spots_ranked prank (e ∷ es) = (refl, spots_ranked prank es)
 
-tally_children : (place : Places) (prank : Ranks) (p : Place) (q : IdBytes → Bool) → tally (λ (x : Entry). q x.id) (children place prank p) ≡ tally (λ (e : IdBytes × Place). q e.0) (picked (λ (e : IdBytes × Place). place_eq p e.1) place)
+tally_children : (place : Places) (prank : Ranks) (p : Place) (q : IdBytes → Bool)
+    → tally (λ (x : Entry). q x.id) (children place prank p) ≡ tally (λ (e : IdBytes × Place). q e.0)
+    (picked (λ (e : IdBytes × Place). place_eq p e.1) place)
 tally_children place prank p q =
     tally-in_order entry_cmp (λ (x : Entry). q x.id) (map (spot_of prank) (picked (λ (e : IdBytes × Place). place_eq p e.1) place))
     ∙ tally-map (λ (x : Entry). q x.id) (spot_of prank) (picked (λ (e : IdBytes × Place). place_eq p e.1) place)
 
 -- other ranks that are those of a new list show the same elements in the same order
 pub children_shown : (place : Places) (old new : Ranks) (p : Place) → length (entry_ids (children place old p)) ≤ most_entries
-    → ((j : ℕ) (e : IdBytes) → slice_get (entry_ids (children place old p)) j ≡ Some e → rank_at new e ≡ rank_of j) → entry_ids (children place new p) ≡ entry_ids (children place old p)
+    → ((j : ℕ) (e : IdBytes) → slice_get (entry_ids (children place old p)) j ≡ Some e → rank_at new e ≡ rank_of j)
+    → entry_ids (children place new p) ≡ entry_ids (children place old p)
 children_shown place old new p few each =
     let ns = entry_ids (children place old p) in
     shown (rank_at new) (children place new p) ns
@@ -135,25 +142,30 @@ children_shown place old new p few each =
     none j = omega arith
 
 -- ---- the targets of a feature
-tally_targets : (row : Rows) (a : IdBytes) (f : ℕ) (q : IdBytes → Bool) → tally (λ (x : Entry). q x.id) (targets row a f) ≡ count (λ (e : RowKey × ℕ). is_of a f e.0 && q e.0.2) row
+tally_targets : (row : Rows) (a : IdBytes) (f : ℕ) (q : IdBytes → Bool)
+    → tally (λ (x : Entry). q x.id) (targets row a f) ≡ count (λ (e : RowKey × ℕ). is_of a f e.0 && q e.0.2) row
 tally_targets row a f q =
     tally-in_order entry_cmp (λ (x : Entry). q x.id) (map row_entry (picked (λ (e : RowKey × ℕ). is_of a f e.0) row))
     ∙ tally-map (λ (x : Entry). q x.id) row_entry (picked (λ (e : RowKey × ℕ). is_of a f e.0) row)
     ∙ tally-filter (λ (e : RowKey × ℕ). is_of a f e.0) (λ (e : RowKey × ℕ). q e.0.2) (entries row)
 
-same_passes : (p : RowKey → Bool) (k : RowKey) (o w : Option ℕ) → is_some o ≡ is_some w → passes (λ (e : RowKey × ℕ). p e.0) k o ≡ passes (λ (e : RowKey × ℕ). p e.0) k w
+same_passes : (p : RowKey → Bool) (k : RowKey) (o w : Option ℕ) → is_some o ≡ is_some w
+    → passes (λ (e : RowKey × ℕ). p e.0) k o ≡ passes (λ (e : RowKey × ℕ). p e.0) k w
 same_passes p k None None h = refl
 same_passes p k None (Some w) h = cc
 same_passes p k (Some o) None h = cc
 same_passes p k (Some o) (Some w) h = refl
 
-held_ranked : (row : Rows) (a : IdBytes) (f : ℕ) (xs : List Entry) → AllByRecursion (λ (x : Entry). get row (a, f, x.id) ≡ Some x.rank) xs → AllByRecursion (λ (x : Entry). x.rank ≡ unwrap_or (get row (a, f, x.id)) 0) xs
+held_ranked : (row : Rows) (a : IdBytes) (f : ℕ) (xs : List Entry) → AllByRecursion (λ (x : Entry). get row (a, f, x.id) ≡ Some x.rank) xs
+    → AllByRecursion (λ (x : Entry). x.rank ≡ unwrap_or (get row (a, f, x.id)) 0) xs
 held_ranked row a f [] all = tt
 held_ranked row a f (x ∷ xs) all = (ap (λ o. unwrap_or o 0) (sym all.0), held_ranked row a f xs all.1)
 
 -- rows to the same targets with the ranks of a new list show them in the same order
-pub targets_shown : (old new : Rows) (a : IdBytes) (f : ℕ) → ((k : RowKey) → is_some (get new k) ≡ is_some (get old k)) → length (entry_ids (targets old a f)) ≤ most_entries
-    → ((j : ℕ) (b : IdBytes) → slice_get (entry_ids (targets old a f)) j ≡ Some b → get new (a, f, b) ≡ Some (rank_of j)) → entry_ids (targets new a f) ≡ entry_ids (targets old a f)
+pub targets_shown : (old new : Rows) (a : IdBytes) (f : ℕ) → ((k : RowKey) → is_some (get new k) ≡ is_some (get old k))
+    → length (entry_ids (targets old a f)) ≤ most_entries
+    → ((j : ℕ) (b : IdBytes) → slice_get (entry_ids (targets old a f)) j ≡ Some b → get new (a, f, b) ≡ Some (rank_of j))
+    → entry_ids (targets new a f) ≡ entry_ids (targets old a f)
 targets_shown old new a f alike few each =
     let ns = entry_ids (targets old a f) in
     let rank = λ (b : IdBytes). unwrap_or (get new (a, f, b)) 0 in
@@ -163,7 +175,8 @@ targets_shown old new a f alike few each =
     (rises_ranked rank ns 0 (few' (length ns) few) (ranked_from rank ns 0 (λ j b is. ap (λ o. unwrap_or o 0) (each j b is) ∙ ap rank_of (none j))))
     (λ q.
     tally_targets new a f q
-    ∙ count_alike row_order (λ (e : RowKey × ℕ). is_of a f e.0 && q e.0.2) new old (λ k. same_passes (λ k. is_of a f k && q k.2) k (get new k) (get old k) (alike k))
+    ∙ count_alike row_order (λ (e : RowKey × ℕ). is_of a f e.0 && q e.0.2) new old
+    (λ k. same_passes (λ k. is_of a f k && q k.2) k (get new k) (get old k) (alike k))
     ∙ sym (tally_targets old a f q) ∙ sym (tally_ids q (targets old a f)))
   where
     few' : (n : ℕ) → n ≤ most_entries → 0 + n ≤ most_entries

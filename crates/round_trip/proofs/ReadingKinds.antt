@@ -50,24 +50,33 @@ entries_again [] = refl
 entries_again (b ∷ bs) = ap (λ xs. Some b ∷ xs) (entries_again bs)
 
 links_again : (f : ℕ) (single : Bool) (b : IdBytes) (bs : List IdBytes) → (single ≡ true → length (b ∷ bs) ≤ 1)
-    → links_part f single (one_or_all single (reference b) (map reference bs)) ≡ record no_part { links = record { feature = f; entries = map (λ x. Some x) (b ∷ bs) } ∷ [] }
+    → links_part f single (one_or_all single (reference b) (map reference bs)) ≡ record no_part {
+      links =
+          record { feature = f; entries = map (λ x. Some x) (b ∷ bs) } ∷ [];
+    }
 links_again f true b [] h = refl
 links_again f true b (d ∷ bs) h = let l = h refl in absurd (omega arith)
-links_again f false b bs h = ap (λ es. record no_part { links = record { feature = f; entries = es } ∷ [] }) (ap (map entry_of) (list_items (map reference (b ∷ bs))) ∙ entries_again (b ∷ bs))
+links_again f false b bs h =
+    ap (λ es. record no_part { links = record { feature = f; entries = es } ∷ [] })
+    (ap (map entry_of) (list_items (map reference (b ∷ bs))) ∙ entries_again (b ∷ bs))
 
 -- ---- elements inside
 abbrev pub IsObject : Data → Type 0
 IsObject d = (ms : Members) × (d ≡ object ms)
 
-held_object : (meta : Meta) (ids : Ids) (p : DocParent) (target : ℕ) (d : Data) → IsObject d → is_within 1 (upper_of meta p.feature) ≡ true → held_rows meta ids p target d ≡ element_rows meta ids (Some p) (Some target) d
+held_object : (meta : Meta) (ids : Ids) (p : DocParent) (target : ℕ) (d : Data) → IsObject d → is_within 1 (upper_of meta p.feature) ≡ true
+    → held_rows meta ids p target d ≡ element_rows meta ids (Some p) (Some target) d
 unfolding element_rows held_rows
-held_object meta ids p target d o within = subst (λ x. held_rows meta ids p target x ≡ element_rows meta ids (Some p) (Some target) x) (sym o.1) (ap (λ b. unless b Bound (element_rows meta ids (Some p) (Some target) (object o.0))) within)
+held_object meta ids p target d o within =
+    subst (λ x. held_rows meta ids p target x ≡ element_rows meta ids (Some p) (Some target) x) (sym o.1)
+    (ap (λ b. unless b Bound (element_rows meta ids (Some p) (Some target) (object o.0))) within)
 
 module _ (meta : Meta) (below : ℕ → Option DocParent → IdBytes → List Draft) (whole : IdBytes → Data) (objects : (c : IdBytes) → IsObject (whole c)) where
   alone : (k : ℕ) (parent : Option DocParent) (c : IdBytes) → below k parent c ≡ forest below k parent (c ∷ [])
   alone k parent c = sym (append-nil (below k parent c))
 
-  held_again : (p : DocParent) (target : ℕ) (single : Bool) (c : IdBytes) (cs : List IdBytes) → is_one (upper_of meta p.feature) ≡ single → is_within (length (c ∷ cs)) (upper_of meta p.feature) ≡ true
+  held_again : (p : DocParent) (target : ℕ) (single : Bool) (c : IdBytes) (cs : List IdBytes) → is_one (upper_of meta p.feature) ≡ single
+      → is_within (length (c ∷ cs)) (upper_of meta p.feature) ≡ true
       → AllByRecursion (Walked meta below whole (Some p) (Some target)) (c ∷ cs) → (ids : Ids) → Come ids (ids_of (forest below (length ids) (Some p) (c ∷ cs)))
       → held_rows meta ids p target (one_or_all single (whole c) (map whole cs)) ≡ Ok (forest below (length ids) (Some p) (c ∷ cs))
   unfolding held_rows
@@ -79,13 +88,17 @@ module _ (meta : Meta) (below : ℕ → Option DocParent → IdBytes → List Dr
   held_again p target false c cs one within all ids come =
       let ds = map whole (c ∷ cs) in
       let many : length (list_of (items_of ds)) ≡ length (c ∷ cs) = ap length (list_items ds) ∙ length-map (c ∷ cs) whole in
-      ap (λ b. unless (not b) WrongType (unless (is_within (length (list_of (items_of ds))) (upper_of meta p.feature)) Bound (items_rows meta ids (Some p) (Some target) [] (items_of ds)))) one
+      ap (λ b. unless (not b) WrongType
+      (unless (is_within (length (list_of (items_of ds))) (upper_of meta p.feature)) Bound
+      (items_rows meta ids (Some p) (Some target) [] (items_of ds)))) one
       ∙ ap (λ n. unless (is_within n (upper_of meta p.feature)) Bound (items_rows meta ids (Some p) (Some target) [] (items_of ds))) many
       ∙ ap (λ b. unless b Bound (items_rows meta ids (Some p) (Some target) [] (items_of ds))) within
-      ∙ items_walk meta below whole (Some p) (Some target) ids (c ∷ cs) [] (length ids) (ap length (sym (append-nil ids))) all (subst (λ zs. Come zs (ids_of (forest below (length ids) (Some p) (c ∷ cs)))) (sym (append-nil ids)) come)
+      ∙ items_walk meta below whole (Some p) (Some target) ids (c ∷ cs) [] (length ids) (ap length (sym (append-nil ids))) all
+      (subst (λ zs. Come zs (ids_of (forest below (length ids) (Some p) (c ∷ cs)))) (sym (append-nil ids)) come)
 
 -- ---- each kind of feature
-module _ (meta : Meta) (named : IsNamed meta) (m : State) (below : ℕ → Option DocParent → IdBytes → List Draft) (whole : IdBytes → Data) (objects : (c : IdBytes) → IsObject (whole c)) (own : ℕ) (e : IdBytes) (f : ℕ) where
+module _ (meta : Meta) (named : IsNamed meta) (m : State) (below : ℕ → Option DocParent → IdBytes → List Draft) (whole : IdBytes → Data)
+    (objects : (c : IdBytes) → IsObject (whole c)) (own : ℕ) (e : IdBytes) (f : ℕ) where
   -- the parent of the elements in the feature
   abbrev here : DocParent
   here = record { row = own; feature = f }
@@ -95,7 +108,8 @@ module _ (meta : Meta) (named : IsNamed meta) (m : State) (below : ℕ → Optio
   FeatureOk k None = (kind_attrs m e f k ≡ []) × (kind_links m e f k ≡ []) × ((n : ℕ) → kind_rows m e f below own n k ≡ [])
   FeatureOk k (Some d) =
       (ids : Ids) → Come ids (ids_of (kind_rows m e f below own (length ids) k))
-      → feature_part meta f k d (λ g target. held_rows meta ids (record { row = own; feature = g }) target d) ≡ Ok (record { attrs = kind_attrs m e f k; links = kind_links m e f k; rows = kind_rows m e f below own (length ids) k })
+      → feature_part meta f k d (λ g target. held_rows meta ids (record { row = own; feature = g }) target d) ≡ Ok
+      (record { attrs = kind_attrs m e f k; links = kind_links m e f k; rows = kind_rows m e f below own (length ids) k })
 
   -- what a good state has under a feature of the kind
   abbrev pub ContentFits : Kind → Type 0
@@ -103,48 +117,65 @@ module _ (meta : Meta) (named : IsNamed meta) (m : State) (below : ℕ → Optio
   ContentFits (AttrMany scalar unique) = AreOk meta (AttrMany scalar unique) (upper_of meta f) (values_at m e f)
   ContentFits (Bounded target opposite) = is_single meta f ≡ true → length (target_ids m e f) ≤ 1
   ContentFits (Free target opposite) = is_single meta f ≡ true → length (target_ids m e f) ≤ 1
-  ContentFits (Contains target opposite) = (is_within (length (child_ids m (Inside e f))) (upper_of meta f) ≡ true) × AllByRecursion (Walked meta below whole (Some here) (Some target)) (child_ids m (Inside e f))
+  ContentFits (Contains target opposite) =
+      (is_within (length (child_ids m (Inside e f))) (upper_of meta f) ≡ true)
+      × AllByRecursion (Walked meta below whole (Some here) (Some target)) (child_ids m (Inside e f))
   ContentFits (Container target opposite) = Unit {0}
   ContentFits Skip = Unit {0}
 
-  single_ok : (s : Scalar) (default : Option Value) → kind_of meta f ≡ Attr s default → (vs : List Value) → values_at m e f ≡ vs → AreOk meta (Attr s default) (upper_of meta f) vs → FeatureOk (Attr s default) (first_value meta s vs)
+  single_ok : (s : Scalar) (default : Option Value) → kind_of meta f ≡ Attr s default → (vs : List Value) → values_at m e f ≡ vs
+      → AreOk meta (Attr s default) (upper_of meta f) vs → FeatureOk (Attr s default) (first_value meta s vs)
   single_ok s default kind [] at ok = (ap (λ xs. set_attr f xs) at, refl, λ n. refl)
   single_ok s default kind (v ∷ []) at ok = λ ids come.
-      single_set meta f s (data_of meta s v) v false (not_null meta s v) (ap (found BadValue) (value_again meta named s v ok.0)) (ap (λ k. is_default k v) kind ∙ ok.1)
+      single_set meta f s (data_of meta s v) v false (not_null meta s v) (ap (found BadValue) (value_again meta named s v ok.0))
+      (ap (λ k. is_default k v) kind ∙ ok.1)
       ∙ ap (λ xs. Ok (record { attrs = set_attr f xs; links = []; rows = [] })) (sym at)
   single_ok s default kind (v ∷ w ∷ vs) at ok = absurd ok
 
-  many_ok : (s : Scalar) (unique : Bool) (vs : List Value) → values_at m e f ≡ vs → AreOk meta (AttrMany s unique) (upper_of meta f) vs → FeatureOk (AttrMany s unique) (listed false (map (data_of meta s) vs))
+  many_ok : (s : Scalar) (unique : Bool) (vs : List Value) → values_at m e f ≡ vs → AreOk meta (AttrMany s unique) (upper_of meta f) vs
+      → FeatureOk (AttrMany s unique) (listed false (map (data_of meta s) vs))
   many_ok s unique [] at ok = (ap (λ xs. set_attr f xs) at, refl, λ n. refl)
   many_ok s unique (v ∷ vs) at ok = λ ids come.
-      many_read meta f s unique (array (items_of (map (data_of meta s) (v ∷ vs)))) (v ∷ vs) true (map (data_of meta s) (v ∷ vs)) refl (sym (list_items (map (data_of meta s) (v ∷ vs))))
-      (values_again meta named s unique [] (v ∷ vs) (all_from (fits meta s) (v ∷ vs) ok.0) (held_once unique (v ∷ vs) ok.3)) (both (is_within (length (v ∷ vs)) (upper_of meta f)) (nat_le (length (v ∷ vs)) most_entries) ok.1 (few (length (v ∷ vs)) ok.2))
+      many_read meta f s unique (array (items_of (map (data_of meta s) (v ∷ vs)))) (v ∷ vs) true (map (data_of meta s) (v ∷ vs)) refl
+      (sym (list_items (map (data_of meta s) (v ∷ vs))))
+      (values_again meta named s unique [] (v ∷ vs) (all_from (fits meta s) (v ∷ vs) ok.0) (held_once unique (v ∷ vs) ok.3))
+      (both (is_within (length (v ∷ vs)) (upper_of meta f)) (nat_le (length (v ∷ vs)) most_entries) ok.1 (few (length (v ∷ vs)) ok.2))
       ∙ ap (λ xs. Ok (record { attrs = set_attr f xs; links = []; rows = [] })) (sym at)
 
   links_told : List IdBytes → Part
   links_told bs = record { attrs = []; links = set_links f bs; rows = [] }
 
-  links_ok : (bs : List IdBytes) → (is_single meta f ≡ true → length bs ≤ 1) → (b : IdBytes) (rest : List IdBytes) → bs ≡ b ∷ rest → links_part f (is_one (upper_of meta f)) (one_or_all (is_single meta f) (reference b) (map reference rest)) ≡ links_told bs
+  links_ok : (bs : List IdBytes) → (is_single meta f ≡ true → length bs ≤ 1) → (b : IdBytes) (rest : List IdBytes) → bs ≡ b ∷ rest
+      → links_part f (is_one (upper_of meta f)) (one_or_all (is_single meta f) (reference b) (map reference rest)) ≡ links_told bs
   unfolding links_told
   links_ok bs few b rest is =
       links_again f (is_single meta f) b rest (subst (λ xs. is_single meta f ≡ true → length xs ≤ 1) is few)
       ∙ ap (λ xs. record { attrs = []; links = set_links f xs; rows = [] }) (sym is)
 
-  bounded_ok : (target : ℕ) (opposite : Option ℕ) (bs : List IdBytes) → target_ids m e f ≡ bs → (is_single meta f ≡ true → length bs ≤ 1) → FeatureOk (Bounded target opposite) (listed (is_single meta f) (map reference bs))
+  bounded_ok : (target : ℕ) (opposite : Option ℕ) (bs : List IdBytes) → target_ids m e f ≡ bs → (is_single meta f ≡ true → length bs ≤ 1)
+      → FeatureOk (Bounded target opposite) (listed (is_single meta f) (map reference bs))
   unfolding links_told
   bounded_ok target opposite [] at few = (refl, ap (λ xs. set_links f xs) at, λ n. refl)
-  bounded_ok target opposite (b ∷ bs) at few = λ ids come. ap (λ (q : Part). Ok q) (links_ok (b ∷ bs) few b bs refl) ∙ ap (λ xs. Ok (record { attrs = []; links = set_links f xs; rows = [] })) (sym at)
+  bounded_ok target opposite (b ∷ bs) at few =
+      λ ids come. ap (λ (q : Part). Ok q) (links_ok (b ∷ bs) few b bs refl)
+      ∙ ap (λ xs. Ok (record { attrs = []; links = set_links f xs; rows = [] })) (sym at)
 
-  free_ok : (target : ℕ) (opposite : Option ℕ) (bs : List IdBytes) → target_ids m e f ≡ bs → (is_single meta f ≡ true → length bs ≤ 1) → FeatureOk (Free target opposite) (listed (is_single meta f) (map reference bs))
+  free_ok : (target : ℕ) (opposite : Option ℕ) (bs : List IdBytes) → target_ids m e f ≡ bs → (is_single meta f ≡ true → length bs ≤ 1)
+      → FeatureOk (Free target opposite) (listed (is_single meta f) (map reference bs))
   unfolding links_told
   free_ok target opposite [] at few = (refl, ap (λ xs. set_links f xs) at, λ n. refl)
-  free_ok target opposite (b ∷ bs) at few = λ ids come. ap (λ (q : Part). Ok q) (links_ok (b ∷ bs) few b bs refl) ∙ ap (λ xs. Ok (record { attrs = []; links = set_links f xs; rows = [] })) (sym at)
+  free_ok target opposite (b ∷ bs) at few =
+      λ ids come. ap (λ (q : Part). Ok q) (links_ok (b ∷ bs) few b bs refl)
+      ∙ ap (λ xs. Ok (record { attrs = []; links = set_links f xs; rows = [] })) (sym at)
 
-  contains_ok : (target : ℕ) (opposite : Option ℕ) (cs : List IdBytes) → child_ids m (Inside e f) ≡ cs → is_within (length cs) (upper_of meta f) ≡ true → AllByRecursion (Walked meta below whole (Some here) (Some target)) cs
+  contains_ok : (target : ℕ) (opposite : Option ℕ) (cs : List IdBytes) → child_ids m (Inside e f) ≡ cs
+      → is_within (length cs) (upper_of meta f) ≡ true → AllByRecursion (Walked meta below whole (Some here) (Some target)) cs
       → FeatureOk (Contains target opposite) (listed (is_single meta f) (map whole cs))
   contains_ok target opposite [] at within all = (refl, refl, λ n. ap (λ xs. forest below n (Some here) xs) at)
   contains_ok target opposite (c ∷ cs) at within all = λ ids come.
-      ap (λ r. «then» r (λ rows. Ok (rows_part rows))) (held_again meta below whole objects here target (is_single meta f) c cs refl within all ids (subst (λ xs. Come ids (ids_of (forest below (length ids) (Some here) xs))) at come))
+      ap (λ r. «then» r (λ rows. Ok (rows_part rows)))
+      (held_again meta below whole objects here target (is_single meta f) c cs refl within all ids
+      (subst (λ xs. Come ids (ids_of (forest below (length ids) (Some here) xs))) at come))
       ∙ ap (λ xs. Ok (record { attrs = []; links = []; rows = forest below (length ids) (Some here) xs })) (sym at)
 
   pub feature_ok : (k : Kind) → kind_of meta f ≡ k → ContentFits k → FeatureOk k (content meta m whole e f k)

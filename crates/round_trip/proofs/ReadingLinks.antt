@@ -1,5 +1,6 @@
 -- The references of the elements are read, and merged lists are those that the elements give.
-use Rattle.std.proofs.Common.{◌≡◌, ℕ, zero, suc, Bool, true, false, cond, List, [], ◌∷◌, ◌++◌, map, refl, sym, ap, subst, ◌∙◌, nat_eq, ◌⊎◌, inl, inr, append_assoc, append-nil}
+use Rattle.std.proofs.Common.{◌≡◌, ℕ, zero, suc, Bool, true, false, cond, List, [], ◌∷◌, ◌++◌, map, refl, sym, ap, subst, ◌∙◌, nat_eq, ◌⊎◌, inl, inr}
+use Rattle.std.proofs.Common.{append_assoc, append-nil}
 use Rattle.std.specs.Prelude.{Option, None, Some, is_some, Ok, unwrap_or}
 use Rattle.std.specs.FinMap.{get}
 use Rattle.std.specs.List.{AllByRecursion}
@@ -28,10 +29,12 @@ use Rattle.round_trip.proofs.WalksNames.{all_append}
 use Rattle.round_trip.proofs.WalksRows.{by_number, class_at, key_links, keys_links, kind_links, set_links}
 
 -- ---- each item gives a value, whatever came before
-pub collected_map : {A B : Type 0} (give : List B → A → Read B) (h : A → B) (done : List B) (xs : List A) → AllByRecursion (λ a. (bs : List B) → give bs a ≡ Ok (h a)) xs → collected give done xs ≡ Ok (done ++ map h xs)
+pub collected_map : {A B : Type 0} (give : List B → A → Read B) (h : A → B) (done : List B) (xs : List A)
+    → AllByRecursion (λ a. (bs : List B) → give bs a ≡ Ok (h a)) xs → collected give done xs ≡ Ok (done ++ map h xs)
 collected_map give h done [] all = ap (λ xs. Ok xs) (sym (append-nil done))
 collected_map give h done (x ∷ xs) all =
-    ap (λ r. «then» r (λ b. collected give (done ++ b ∷ []) xs)) (all.0 done) ∙ collected_map give h (done ++ h x ∷ []) xs all.1 ∙ ap (λ ys. Ok ys) (append_assoc done (h x ∷ []) (map h xs))
+    ap (λ r. «then» r (λ b. collected give (done ++ b ∷ []) xs)) (all.0 done) ∙ collected_map give h (done ++ h x ∷ []) xs all.1
+    ∙ ap (λ ys. Ok ys) (append_assoc done (h x ∷ []) (map h xs))
 
 -- ---- the links of an element
 abbrev Has : ℕ → List Links → Type 0
@@ -61,7 +64,8 @@ module _ (meta : Meta) (m : State) (e : IdBytes) where
   first_told f [] all (inr h) = absurd h
   first_told f (l ∷ ls) all h = by_test (nat_eq f l.feature) refl (first_told f ls all.1) h
     where
-      by_test : (b : Bool) → nat_eq f l.feature ≡ b → ((target_ids m e f ≡ []) ⊎ Has f ls → entries_at f ls ≡ ids_at f) → (target_ids m e f ≡ []) ⊎ ((f ≡ l.feature) ⊎ Has f ls) → cond b l.entries (entries_at f ls) ≡ ids_at f
+      by_test : (b : Bool) → nat_eq f l.feature ≡ b → ((target_ids m e f ≡ []) ⊎ Has f ls → entries_at f ls ≡ ids_at f)
+          → (target_ids m e f ≡ []) ⊎ ((f ≡ l.feature) ⊎ Has f ls) → cond b l.entries (entries_at f ls) ≡ ids_at f
       by_test true is more h = all.0 ∙ ap ids_at (sym (nat_equality.exact f l.feature is))
       by_test false is more (inl none) = more (inl none)
       by_test false is more (inr (inl same)) = let yes : nat_eq f l.feature ≡ true = subst (λ x. nat_eq f x ≡ true) same (nat_equality.own f) in cc
@@ -109,7 +113,8 @@ module _ (meta : Meta) (m : State) (e : IdBytes) where
   key_has f h (key ∷ keys) (inr s) = has_second f (key_links meta m e key) (keys_links meta m e keys) (key_has f h keys s)
 
   -- the entries of a plain reference of the class are its targets
-  pub entries_told : (c f : ℕ) → Stands f (features_of meta c) → is_plain (kind_of meta f) ≡ true → entries_at f (keys_links meta m e (keys_of meta c)) ≡ ids_at f
+  pub entries_told : (c f : ℕ) → Stands f (features_of meta c) → is_plain (kind_of meta f) ≡ true
+      → entries_at f (keys_links meta m e (keys_of meta c)) ≡ ids_at f
   entries_told c f s plain = first_told f (keys_links meta m e (keys_of meta c)) (keys_told (keys_of meta c)) (by_targets (kind_has f (kind_of meta f) plain))
     where
       by_targets : (target_ids m e f ≡ []) ⊎ Has f (kind_links m e f (kind_of meta f)) → (target_ids m e f ≡ []) ⊎ Has f (keys_links meta m e (keys_of meta c))
@@ -125,7 +130,8 @@ module _ (meta : Meta) (all : List ℕ) where
   plain_from [] sub = tt
   plain_from (g ∷ fs) sub = by_test (is_plain (kind_of meta g)) refl (plain_from fs (λ f s. sub f (inr s)))
     where
-      by_test : (b : Bool) → is_plain (kind_of meta g) ≡ b → AllByRecursion IsPlainOf (plain_features meta fs) → AllByRecursion IsPlainOf (cond b (g ∷ plain_features meta fs) (plain_features meta fs))
+      by_test : (b : Bool) → is_plain (kind_of meta g) ≡ b → AllByRecursion IsPlainOf (plain_features meta fs)
+          → AllByRecursion IsPlainOf (cond b (g ∷ plain_features meta fs) (plain_features meta fs))
       by_test true is later = ((is, sub g (inl refl)), later)
       by_test false is later = later
 
@@ -167,7 +173,8 @@ pub record IsLink (meta : Meta) (m : State) (a : IdBytes) (f : ℕ) (b : IdBytes
 module _ (meta : Meta) (m : State) (good : Good meta m) where
   link_of : (a : IdBytes) (f : ℕ) (b : IdBytes) (o : Option ℕ) → get m.row (a, f, b) ≡ o → is_some o ≡ true → IsLink meta m a f b
   link_of a f b None is h = cc
-  link_of a f b (Some rank) is h = by_classes (get m.kind a) (get m.kind b) refl refl (subst (StateRowOk meta (get m.kind a) f (get m.kind b)) is (good.rows.typed a f b))
+  link_of a f b (Some rank) is h =
+      by_classes (get m.kind a) (get m.kind b) refl refl (subst (StateRowOk meta (get m.kind a) f (get m.kind b)) is (good.rows.typed a f b))
     where
       by_classes : (c d : Option ℕ) → get m.kind a ≡ c → get m.kind b ≡ d → may_link meta c f d ≡ true → IsLink meta m a f b
       by_classes None d at to may = cc
@@ -180,7 +187,8 @@ module _ (meta : Meta) (m : State) (good : Good meta m) where
             row = ap is_some is;
             source = at ∙ ap (λ x. Some x) source;
             target = to ∙ ap (λ x. Some x) target;
-            held = subst (λ x. Stands f (features_of meta x)) source (in_class meta c f (and_first (has_feature meta c f) (plain_to meta (kind_of meta f) d) may));
+            held = subst (λ x. Stands f (features_of meta x)) source
+                (in_class meta c f (and_first (has_feature meta c f) (plain_to meta (kind_of meta f) d) may));
             type = subst (λ x. plain_to meta (kind_of meta f) x ≡ true) target type;
             plain = plain_kind meta (kind_of meta f) d type;
           }
@@ -188,7 +196,8 @@ module _ (meta : Meta) (m : State) (good : Good meta m) where
   pub linked : (a : IdBytes) (f : ℕ) (b : IdBytes) → is_some (get m.row (a, f, b)) ≡ true → IsLink meta m a f b
   linked a f b h = link_of a f b (get m.row (a, f, b)) refl h
 
-  entries_linked : (a : IdBytes) (f : ℕ) (xs : List Entry) → AllByRecursion (λ (x : Entry). get m.row (a, f, x.id) ≡ Some x.rank) xs → AllByRecursion (IsLink meta m a f) (map (λ (x : Entry). x.id) xs)
+  entries_linked : (a : IdBytes) (f : ℕ) (xs : List Entry) → AllByRecursion (λ (x : Entry). get m.row (a, f, x.id) ≡ Some x.rank) xs
+      → AllByRecursion (IsLink meta m a f) (map (λ (x : Entry). x.id) xs)
   entries_linked a f [] all = tt
   entries_linked a f (x ∷ xs) all = (linked a f x.id (ap is_some all.0), entries_linked a f xs all.1)
 
@@ -199,17 +208,20 @@ module _ (meta : Meta) (m : State) (good : Good meta m) where
   pub targets_held_by : (a : IdBytes) (f : ℕ) → (target_ids m a f ≡ []) ⊎ Stands f (plain_features meta (features_of meta (class_at meta m a)))
   targets_held_by a f = by_targets (target_ids m a f) refl (targets_linked a f)
     where
-      by_targets : (bs : List IdBytes) → target_ids m a f ≡ bs → AllByRecursion (IsLink meta m a f) bs → (target_ids m a f ≡ []) ⊎ Stands f (plain_features meta (features_of meta (class_at meta m a)))
+      by_targets : (bs : List IdBytes) → target_ids m a f ≡ bs → AllByRecursion (IsLink meta m a f) bs
+          → (target_ids m a f ≡ []) ⊎ Stands f (plain_features meta (features_of meta (class_at meta m a)))
       by_targets [] is all = inl is
       by_targets (b ∷ bs) is all = inr (plain_stands meta f (features_of meta (class_at meta m a)) all.0.plain all.0.held)
 
 -- ---- lists of references by feature
-pub targets_at_map : (ts : ℕ → List ℕ) (f : ℕ) (fs : List ℕ) → (ts f ≡ []) ⊎ Stands f fs → targets_at f (map (λ g. record { feature = g; targets = ts g }) fs) ≡ ts f
+pub targets_at_map : (ts : ℕ → List ℕ) (f : ℕ) (fs : List ℕ) → (ts f ≡ []) ⊎ Stands f fs
+    → targets_at f (map (λ g. record { feature = g; targets = ts g }) fs) ≡ ts f
 targets_at_map ts f [] (inl none) = sym none
 targets_at_map ts f [] (inr s) = absurd s
 targets_at_map ts f (g ∷ fs) h = by_test (nat_eq f g) refl (targets_at_map ts f fs) h
   where
-    by_test : (b : Bool) → nat_eq f g ≡ b → ((ts f ≡ []) ⊎ Stands f fs → targets_at f (map (λ g. record { feature = g; targets = ts g }) fs) ≡ ts f) → (ts f ≡ []) ⊎ ((f ≡ g) ⊎ Stands f fs)
+    by_test : (b : Bool) → nat_eq f g ≡ b → ((ts f ≡ []) ⊎ Stands f fs → targets_at f (map (λ g. record { feature = g; targets = ts g }) fs) ≡ ts f)
+        → (ts f ≡ []) ⊎ ((f ≡ g) ⊎ Stands f fs)
         → cond b (ts g) (targets_at f (map (λ g. record { feature = g; targets = ts g }) fs)) ≡ ts f
     by_test true is more h = ap ts (sym (nat_equality.exact f g is))
     by_test false is more (inl none) = more (inl none)

@@ -1,5 +1,6 @@
 -- What stands under a feature gives what it is to give.
-use Rattle.std.proofs.Common.{◌≡◌, ℕ, suc, ◌≤◌, Bool, true, false, cond, not, ◌&&◌, ◌||◌, List, [], ◌∷◌, ◌++◌, map, refl, sym, ap, subst, ◌∙◌, arith, append_assoc, append-nil}
+use Rattle.std.proofs.Common.{◌≡◌, ℕ, suc, ◌≤◌, Bool, true, false, cond, not, ◌&&◌, ◌||◌, List, [], ◌∷◌, ◌++◌, map, refl, sym, ap, subst, ◌∙◌, arith}
+use Rattle.std.proofs.Common.{append_assoc, append-nil}
 use Rattle.std.specs.Prelude.{Option, None, Some, option_and_then, Ok, nat_le}
 use Rattle.std.specs.List.{AllByRecursion, list_any}
 use Rattle.std.proofs.lemmas.Bool.{or_parts}
@@ -57,17 +58,24 @@ all_new done (v ∷ vs) = (refl, all_new (done ++ v ∷ []) vs)
 
 none_equal : (v : Value) (vs : List Value) → list_any (value_eq v) vs ≡ false → AllByRecursion (λ w. value_eq w v ≡ false) vs
 none_equal v [] h = tt
-none_equal v (w ∷ ws) h = let parts = or_parts (value_eq v w) (list_any (value_eq v) ws) h in (apart value_eq value_equality v w parts.0, none_equal v ws parts.1)
+none_equal v (w ∷ ws) h = let parts = or_parts (value_eq v w) (list_any (value_eq v) ws) h
+    in (apart value_eq value_equality v w parts.0, none_equal v ws parts.1)
 
-one_more : (v : Value) (done vs : List Value) → AllByRecursion (λ w. list_any (value_eq w) done ≡ false) vs → AllByRecursion (λ w. value_eq w v ≡ false) vs → AllByRecursion (λ w. list_any (value_eq w) (done ++ v ∷ []) ≡ false) vs
+one_more : (v : Value) (done vs : List Value) → AllByRecursion (λ w. list_any (value_eq w) done ≡ false) vs
+    → AllByRecursion (λ w. value_eq w v ≡ false) vs → AllByRecursion (λ w. list_any (value_eq w) (done ++ v ∷ []) ≡ false) vs
 one_more v done [] old new = tt
 one_more v done (w ∷ ws) old new =
     (list_any-append (value_eq w) done (v ∷ []) ∙ ap (λ b. b || (value_eq w v || false)) old.0 ∙ ap (λ b. b || false) new.0, one_more v done ws old.1 new.1)
 
 distinct_new : (done vs : List Value) → AllByRecursion (λ w. list_any (value_eq w) done ≡ false) vs → is_distinct vs ≡ true → New true done vs
 distinct_new done [] old h = tt
-distinct_new done (v ∷ vs) old h =
-    (old.0, distinct_new (done ++ v ∷ []) vs (one_more v done vs old.1 (none_equal v vs (not_true (list_any (value_eq v) vs) (and_first (not (list_any (value_eq v) vs)) (is_distinct vs) h)))) (and_second (not (list_any (value_eq v) vs)) (is_distinct vs) h))
+distinct_new done (v ∷ vs) old h = (
+  old.0,
+  distinct_new (done ++ v ∷ []) vs
+      (one_more v done vs old.1
+      (none_equal v vs (not_true (list_any (value_eq v) vs) (and_first (not (list_any (value_eq v) vs)) (is_distinct vs) h))))
+      (and_second (not (list_any (value_eq v) vs)) (is_distinct vs) h),
+)
 
 none_done : (vs : List Value) → AllByRecursion (λ w. list_any (value_eq w) [] ≡ false) vs
 none_done [] = tt
@@ -79,9 +87,11 @@ held_once false vs h = all_new [] vs
 
 module _ (meta : Meta) (named : IsNamed meta) where
   pub value_again : (s : Scalar) (v : Value) → fits meta s v ≡ true → value_in meta s (data_of meta s v) ≡ Some v
-  value_again s v h = ap (option_and_then (value_in meta s)) (sym (read_compact (data_of meta s v) (plain_value meta s v h) (shallow meta s v))) ∙ written_read meta named.literals s v h
+  value_again s v h = ap (option_and_then (value_in meta s)) (sym (read_compact (data_of meta s v) (plain_value meta s v h) (shallow meta s v)))
+      ∙ written_read meta named.literals s v h
 
-  pub values_again : (s : Scalar) (unique : Bool) (done vs : List Value) → AllByRecursion (λ v. fits meta s v ≡ true) vs → New unique done vs → collected (next_value meta s unique) done (map (data_of meta s) vs) ≡ Ok (done ++ vs)
+  pub values_again : (s : Scalar) (unique : Bool) (done vs : List Value) → AllByRecursion (λ v. fits meta s v ≡ true) vs → New unique done vs
+      → collected (next_value meta s unique) done (map (data_of meta s) vs) ≡ Ok (done ++ vs)
   values_again s unique done [] all new = ap (λ xs. Ok xs) (sym (append-nil done))
   values_again s unique done (v ∷ vs) all new =
       ap (λ r. «then» r (λ b. collected (next_value meta s unique) (done ++ b ∷ []) (map (data_of meta s) vs)))

@@ -11,7 +11,8 @@ use Rattle.json.specs.Tree.{HasNumbers, ItemsHaveNumbers, MembersHaveNumbers}
 use Rattle.json.proofs.Printed.Decimals.{IsNumber-decimal, IsNumber-signed_decimal}
 use Rattle.json.proofs.Printed.Tokens.{tokens-print}
 use Rattle.json.proofs.Printed.Trees.{ArePrintable-json_tokens, value-json_tokens}
-use Rattle.serde_json.specs.Data.{Num, unsigned, negative, float, Data, null, boolean, number, string, array, object, Items, no_items, item, Members, no_members, member, put, depth, items_depth, members_depth}
+use Rattle.serde_json.specs.Data.{Num, unsigned, negative, float, Data, null, boolean, number, string, array, object, Items, no_items, item, Members}
+use Rattle.serde_json.specs.Data.{no_members, member, put, depth, items_depth, members_depth}
 use Rattle.serde_json.specs.Read.{read, number_of, of_json, of_items, of_members, max_depth}
 use Rattle.serde_json.specs.Written.{compact_text, number_text, outline, items_outline, members_outline}
 use Rattle.serde_json.proofs.Numbers.{number_of-decimal, number_of-negative}
@@ -73,7 +74,8 @@ module _ where
   put_last : (k : List ℕ) (d : Data) (ms : Members) → AllBelow ms k → put k d ms ≡ joined ms (member k d no_members)
   unfolding joined AllBelow
   put_last k d no_members h = refl
-  put_last k d (member l e ms) h = ap (λ o. match_ordering o (member k d (member l e ms)) (member l d ms) (member l e (put k d ms))) h.0 ∙ ap (member l e) (put_last k d ms h.1)
+  put_last k d (member l e ms) h =
+      ap (λ o. match_ordering o (member k d (member l e ms)) (member l d ms) (member l e (put k d ms))) h.0 ∙ ap (member l e) (put_last k d ms h.1)
 
   joined_more : (ms : Members) (k : List ℕ) (d : Data) (ns : Members) → joined (joined ms (member k d no_members)) ns ≡ joined ms (member k d ns)
   unfolding joined
@@ -90,7 +92,8 @@ module _ where
   AllApart ms no_members = Unit {0}
   AllApart ms (member k d ns) = AllBelow ms k × AllApart ms ns
 
-  below_joined : (ms : Members) (k : List ℕ) (d : Data) (l : List ℕ) → AllBelow ms l → slice_cmp nat_cmp l k ≡ Greater → AllBelow (joined ms (member k d no_members)) l
+  below_joined : (ms : Members) (k : List ℕ) (d : Data) (l : List ℕ) → AllBelow ms l → slice_cmp nat_cmp l k ≡ Greater
+      → AllBelow (joined ms (member k d no_members)) l
   unfolding joined AllBelow
   below_joined no_members k d l h g = (g, tt)
   below_joined (member n e ms) k d l h g = (h.0, below_joined ms k d l h.1 g)
@@ -170,7 +173,8 @@ mutual
 pub read_compact : (d : Data) → IsPlain d → depth d ≤ max_depth → read (compact_text d) ≡ Some d
 read_compact d plain shallow =
     let j = outline d in
-    let ts : tokens (compact_text d) ≡ tree.json_tokens j = ap tokens (sym (print-outline d)) ∙ tokens-print (tree.json_tokens j) (ArePrintable-json_tokens j (has_numbers d plain)) in
+    let ts : tokens (compact_text d) ≡ tree.json_tokens j =
+    ap tokens (sym (print-outline d)) ∙ tokens-print (tree.json_tokens j) (ArePrintable-json_tokens j (has_numbers d plain)) in
     let e = same_depth d in
     ap (λ us. option_and_then of_json (option_and_then (λ p. json.if_last p.0 p.1) (json.value max_depth us))) (ts ∙ sym (append-nil _))
     ∙ ap (λ v. option_and_then of_json (option_and_then (λ p. json.if_last p.0 p.1) v)) (value-json_tokens j max_depth [] (omega arith))

@@ -1,5 +1,6 @@
 -- An element is found by its id.
-use Rattle.std.proofs.Common.{◌≡◌, ℕ, zero, suc, ◌+◌, ◌==◌, Bool, true, false, cond, not, ◌&&◌, ◌||◌, List, [], ◌∷◌, ◌++◌, length, map, refl, sym, ap, subst, ◌∙◌, arith, nat_eq, ◌⊎◌, inl, inr, eq-eqb, append_assoc, append-nil}
+use Rattle.std.proofs.Common.{◌≡◌, ℕ, zero, suc, ◌+◌, ◌==◌, Bool, true, false, cond, not, ◌&&◌, ◌||◌, List, [], ◌∷◌, ◌++◌, length, map, refl, sym, ap}
+use Rattle.std.proofs.Common.{subst, ◌∙◌, arith, nat_eq, ◌⊎◌, inl, inr, eq-eqb, append_assoc, append-nil}
 use Rattle.std.specs.Prelude.{None, Some, Ok, slice_get, nat_le}
 use Rattle.std.specs.List.{AllByRecursion, list_all, list_any}
 use Rattle.std.specs.Option.{option_map_or}
@@ -34,7 +35,8 @@ pub spot_there : (b : IdBytes) (xs : List IdBytes) → Stands b xs → slice_get
 spot_there b [] h = absurd h
 spot_there b (x ∷ xs) h = by_test (text_eq x b) refl (spot_there b xs) h
   where
-    by_test : (t : Bool) → text_eq x b ≡ t → (Stands b xs → slice_get xs (spot xs b) ≡ Some b) → (b ≡ x) ⊎ Stands b xs → slice_get (x ∷ xs) (cond t 0 (suc (spot xs b))) ≡ Some b
+    by_test : (t : Bool) → text_eq x b ≡ t → (Stands b xs → slice_get xs (spot xs b) ≡ Some b) → (b ≡ x) ⊎ Stands b xs
+        → slice_get (x ∷ xs) (cond t 0 (suc (spot xs b))) ≡ Some b
     by_test true is more h = ap (λ (z : IdBytes). Some z) (text_equality.exact x b is)
     by_test false is more (inl same) = absurd (true_false (text_eq x b) (subst (λ z. text_eq x z ≡ true) (sym same) (text_equality.own x)) is)
     by_test false is more (inr s) = more s
@@ -55,7 +57,8 @@ pub spot_same : (a b : IdBytes) (xs : List IdBytes) → Stands a xs → Stands b
 spot_same a b xs s t is = let same : Some a ≡ Some b = sym (spot_there a xs s) ∙ ap (slice_get xs) is ∙ spot_there b xs t in cc
 
 -- ---- by its id
-named_from : (b : IdBytes) (rows : List Draft) (xs : List IdBytes) (n : ℕ) → ids_of rows ≡ map (λ x. Some x) xs → Stands b xs → slice_get (numbers_where (has_id b) n rows) 0 ≡ Some (n + spot xs b)
+named_from : (b : IdBytes) (rows : List Draft) (xs : List IdBytes) (n : ℕ) → ids_of rows ≡ map (λ x. Some x) xs → Stands b xs
+    → slice_get (numbers_where (has_id b) n rows) 0 ≡ Some (n + spot xs b)
 named_from b rows [] n ids h = absurd h
 named_from b [] (x ∷ xs) n ids h = cc
 named_from b (r ∷ rows) (x ∷ xs) n ids h =
@@ -70,7 +73,8 @@ named_from b (r ∷ rows) (x ∷ xs) n ids h =
     later : (n k : ℕ) → suc n + k ≡ n + suc k
     later n k = omega arith
 
-    by_test : (t : Bool) → text_eq x b ≡ t → (Stands b xs → slice_get (numbers_where (has_id b) (suc n) rows) 0 ≡ Some (suc n + spot xs b)) → (b ≡ x) ⊎ Stands b xs
+    by_test : (t : Bool) → text_eq x b ≡ t → (Stands b xs → slice_get (numbers_where (has_id b) (suc n) rows) 0 ≡ Some (suc n + spot xs b))
+        → (b ≡ x) ⊎ Stands b xs
         → slice_get (cond t (n ∷ numbers_where (has_id b) (suc n) rows) (numbers_where (has_id b) (suc n) rows)) 0 ≡ Some (n + cond t 0 (suc (spot xs b)))
     by_test true is more h = ap (λ k. Some k) (none n)
     by_test false is more (inl same) = absurd (true_false (text_eq x b) (subst (λ z. text_eq x z ≡ true) (sym same) (text_equality.own x)) is)
@@ -95,7 +99,8 @@ located_id meta rows b h =
     ap (λ o. located_bare meta rows (bare b o)) (not_behind 35 b (no_sign b begins)) ∙ ap (located_by meta rows b) (not_behind 47 b (no_slash b begins))
 
 -- ---- the row of that id
-pub row_at : (meta : Meta) (m : State) (names : List IdBytes) (rows : List Draft) (xs : List IdBytes) (n : ℕ) (b : IdBytes) → ids_of rows ≡ map (λ x. Some x) xs → AllByRecursion (RowOk meta m names) rows → slice_get xs n ≡ Some b
+pub row_at : (meta : Meta) (m : State) (names : List IdBytes) (rows : List Draft) (xs : List IdBytes) (n : ℕ) (b : IdBytes)
+    → ids_of rows ≡ map (λ x. Some x) xs → AllByRecursion (RowOk meta m names) rows → slice_get xs n ≡ Some b
     → (r : Draft) × (slice_get rows n ≡ Some r) × IsRow meta m names r b
 row_at meta m names rows [] n b ids all at = cc
 row_at meta m names [] (x ∷ xs) n b ids all at = cc
@@ -104,9 +109,11 @@ row_at meta m names (r ∷ rows) (x ∷ xs) zero b ids all at =
     let head : r.id ≡ Some x = cc in
     let same : all.0.0 ≡ b = cc in
     (r, refl, subst (IsRow meta m names r) same all.0.1)
-row_at meta m names (r ∷ rows) (x ∷ xs) (suc n) b ids all at = let tail : ids_of rows ≡ map (λ x. Some x) xs = cc in row_at meta m names rows xs n b tail all.1 at
+row_at meta m names (r ∷ rows) (x ∷ xs) (suc n) b ids all at = let tail : ids_of rows ≡ map (λ x. Some x) xs = cc
+    in row_at meta m names rows xs n b tail all.1 at
 
-module _ (meta : Meta) (m : State) (names : List IdBytes) (rows : List Draft) (ids : ids_of rows ≡ map (λ x. Some x) names) (all : AllByRecursion (RowOk meta m names) rows) where
+module _ (meta : Meta) (m : State) (names : List IdBytes) (rows : List Draft) (ids : ids_of rows ≡ map (λ x. Some x) names)
+    (all : AllByRecursion (RowOk meta m names) rows) where
   pub class_there : (b : IdBytes) → Stands b names → class_at rows (spot names b) ≡ walks.class_at meta m b
   class_there b s =
       let r = row_at meta m names rows names (spot names b) b ids all (spot_there b names s) in
@@ -118,7 +125,8 @@ module _ (meta : Meta) (m : State) (names : List IdBytes) (rows : List Draft) (i
     pub form : is_id b ≡ true
     pub type : plain_to meta (kind_of meta f) (walks.class_at meta m b) ≡ true
 
-  target_read : (f : ℕ) (done : List ℕ) (b : IdBytes) → IsReady f b → list_any (nat_eq (spot names b)) done ≡ false → target_of meta rows f done (Some b) ≡ Ok (spot names b)
+  target_read : (f : ℕ) (done : List ℕ) (b : IdBytes) → IsReady f b → list_any (nat_eq (spot names b)) done ≡ false
+      → target_of meta rows f done (Some b) ≡ Ok (spot names b)
   target_read f done b ready new =
       ap (new_target meta rows f done) (located_id meta rows b ready.form ∙ named_from b rows names 0 ids ready.there ∙ ap (λ k. Some k) (none (spot names b)))
       ∙ ap (λ t. unless (not t) BadRef (unless (plain_to meta (kind_of meta f) (class_at rows (spot names b))) WrongType (Ok (spot names b)))) new
@@ -127,17 +135,21 @@ module _ (meta : Meta) (m : State) (names : List IdBytes) (rows : List Draft) (i
       none : (n : ℕ) → 0 + n ≡ n
       none n = omega arith
 
-  one_more : (f : ℕ) (b : IdBytes) → IsReady f b → (done : List ℕ) (bs : List IdBytes) → AllByRecursion (IsReady f) bs → AllByRecursion (Differ b) bs → AllByRecursion (λ x. list_any (nat_eq (spot names x)) done ≡ false) bs
+  one_more : (f : ℕ) (b : IdBytes) → IsReady f b → (done : List ℕ) (bs : List IdBytes) → AllByRecursion (IsReady f) bs → AllByRecursion (Differ b) bs
+      → AllByRecursion (λ x. list_any (nat_eq (spot names x)) done ≡ false) bs
       → AllByRecursion (λ x. list_any (nat_eq (spot names x)) (done ++ spot names b ∷ []) ≡ false) bs
   one_more f b ready done [] readies differ new = tt
   one_more f b ready done (x ∷ bs) readies differ new = (
     list_any-append (nat_eq (spot names x)) done (spot names b ∷ [])
         ∙ ap (λ t. t || (nat_eq (spot names x) (spot names b) || false)) new.0
-        ∙ ap (λ t. t || false) (not_so (nat_eq (spot names x) (spot names b)) (λ e. differ.0 (sym (spot_same x b names readies.0.there ready.there (nat_equality.exact (spot names x) (spot names b) e))))),
+        ∙ ap (λ t. t || false)
+        (not_so (nat_eq (spot names x) (spot names b))
+        (λ e. differ.0 (sym (spot_same x b names readies.0.there ready.there (nat_equality.exact (spot names x) (spot names b) e))))),
     one_more f b ready done bs readies.1 differ.1 new.1,
   )
 
-  pub targets_read : (f : ℕ) (done : List ℕ) (bs : List IdBytes) → AllByRecursion (IsReady f) bs → Pairs Differ bs → AllByRecursion (λ x. list_any (nat_eq (spot names x)) done ≡ false) bs
+  pub targets_read : (f : ℕ) (done : List ℕ) (bs : List IdBytes) → AllByRecursion (IsReady f) bs → Pairs Differ bs
+      → AllByRecursion (λ x. list_any (nat_eq (spot names x)) done ≡ false) bs
       → collected (target_of meta rows f) done (map (λ x. Some x) bs) ≡ Ok (done ++ map (spot names) bs)
   targets_read f done [] ready differ new = ap (λ xs. Ok xs) (sym (append-nil done))
   targets_read f done (b ∷ bs) ready differ new =

@@ -43,7 +43,8 @@ use Rattle.round_trip.proofs.WalksRows.{class_at, tree_rows}
 use Rattle.round_trip.proofs.WalksShort.{walked_short}
 use Rattle.round_trip.proofs.WalksWhole.{listed_depths}
 
-module _ (meta : Meta) (m : State) (good : Good meta m) (forms : (e : IdBytes) → is_live m e ≡ true → is_id e ≡ true) (names : List IdBytes) (apart : Pairs Differ names) (covered : (x : IdBytes) (c : ℕ) → get m.kind x ≡ Some c → Stands x names)
+module _ (meta : Meta) (m : State) (good : Good meta m) (forms : (e : IdBytes) → is_live m e ≡ true → is_id e ≡ true) (names : List IdBytes)
+    (apart : Pairs Differ names) (covered : (x : IdBytes) (c : ℕ) → get m.kind x ≡ Some c → Stands x names)
     (rows : List Draft) (ids : ids_of rows ≡ map (λ x. Some x) names) (all : AllByRecursion (RowOk meta m names) rows) where
   -- the row of a document
   abbrev shown : Draft → DocRow
@@ -55,7 +56,9 @@ module _ (meta : Meta) (m : State) (good : Good meta m) (forms : (e : IdBytes) �
   named_back (b ∷ bs) there = λ i. unwrap_or (spot_there b names there.0 i) [] ∷ named_back bs there.1 i
 
   targets_told : (e : IdBytes) (f : ℕ) → map (name_at names) (map (spot names) (target_ids m e f)) ≡ target_ids m e f
-  targets_told e f = named_back (target_ids m e f) (all_so (IsLink meta m e f) (λ b. Stands b names) (λ b link. covered b (class_at meta m b) link.target) (target_ids m e f) (targets_linked meta m good e f))
+  targets_told e f = named_back (target_ids m e f)
+      (all_so (IsLink meta m e f) (λ b. Stands b names) (λ b link. covered b (class_at meta m b) link.target) (target_ids m e f)
+      (targets_linked meta m good e f))
 
   element_told : (r : Draft) (e : IdBytes) → IsRow meta m names r e → DescribesElement m names e (shown r)
   element_told r e row =
@@ -77,7 +80,8 @@ module _ (meta : Meta) (m : State) (good : Good meta m) (forms : (e : IdBytes) �
       some_same x y h = cc
 
   -- ---- each list
-  standing_kept : (p : Place) (qs : List Draft) (xs : List IdBytes) (n : ℕ) → ids_of qs ≡ map (λ x. Some x) xs → AllByRecursion (RowOk meta m names) qs → ((i : ℕ) (x : IdBytes) → slice_get xs i ≡ Some x → slice_get names (n + i) ≡ Some x)
+  standing_kept : (p : Place) (qs : List Draft) (xs : List IdBytes) (n : ℕ) → ids_of qs ≡ map (λ x. Some x) xs
+      → AllByRecursion (RowOk meta m names) qs → ((i : ℕ) (x : IdBytes) → slice_get xs i ≡ Some x → slice_get names (n + i) ≡ Some x)
       → standing_in names p n (map shown qs) ≡ kept m p xs
   standing_kept p [] [] n is ok at = refl
   standing_kept p [] (x ∷ xs) n is ok at = cc
@@ -116,13 +120,15 @@ module _ (meta : Meta) (m : State) (good : Good meta m) (forms : (e : IdBytes) �
       none i = omega arith
 
 -- ---- put together
-pub texts_are_told : (meta : Meta) → IsMetamodel meta → (m : State) → Good meta m → ((e : IdBytes) → is_live m e ≡ true → is_id e ≡ true) → depth (tree meta m) ≤ max_depth
+pub texts_are_told : (meta : Meta) → IsMetamodel meta → (m : State) → Good meta m → ((e : IdBytes) → is_live m e ≡ true → is_id e ≡ true)
+    → depth (tree meta m) ≤ max_depth
     → (names : List IdBytes) × (rows : List DocRow) × (doc_of meta (text meta m) ≡ Ok rows) × Describes m names rows × (length rows ≤ length (text meta m))
 unfolding doc_of
 texts_are_told meta promised m good forms shallow =
     let n = depth (tree meta m) in
     let nested : IsNested meta m = text_is_whole meta m good in
-    let deep : AllByRecursion (λ c. depth (whole meta m c) ≤ n) (child_ids m Root) = listed_depths (whole meta m) n true (child_ids m Root) (one_or_list_within n (map (whole meta m) (child_ids m Root)) (omega arith)) in
+    let deep : AllByRecursion (λ c. depth (whole meta m c) ≤ n) (child_ids m Root) =
+    listed_depths (whole meta m) n true (child_ids m Root) (one_or_list_within n (map (whole meta m) (child_ids m Root)) (omega arith)) in
     let names = model_names meta m good n in
     let rows = model_rows meta promised m good forms in
     let apart = roots_apart meta promised.named m good n in
@@ -135,7 +141,8 @@ texts_are_told meta promised m good forms shallow =
     let as_many = length-map rows shown in (
       names,
       map shown rows,
-      ap (of_json meta) (text_reads meta promised.named m good shallow) ∙ ap (λ r. «then» r (resolved meta)) walk ∙ resolved_ok meta m good forms names apart covered rows ids all,
+      ap (of_json meta) (text_reads meta promised.named m good shallow) ∙ ap (λ r. «then» r (resolved meta)) walk
+          ∙ resolved_ok meta m good forms names apart covered rows ids all,
       model_told meta m good forms names apart covered rows ids all (names_kept meta promised.named m good nested n deep),
       omega arith,
     )

@@ -28,7 +28,8 @@ use Rattle.emfjson_io.specs.Values.{data_of}
 use Rattle.edit_laws.proofs.Lists.{all-in_order}
 use Rattle.model_texts.specs.Keys.{key_name, keys_of}
 use Rattle.model_state.specs.Listing.{values_at}
-use Rattle.model_texts.specs.Tree.{child_ids, content, element, first_value, is_single, listed, members, object_of, one_or_list, part, reference, target_ids, text, tree, whole, with_member}
+use Rattle.model_texts.specs.Tree.{child_ids, content, element, first_value, is_single, listed, members, object_of, one_or_list, part, reference}
+use Rattle.model_texts.specs.Tree.{target_ids, text, tree, whole, with_member}
 use Rattle.ecore_meta.specs.Named.{IsNamed}
 use Rattle.round_trip.proofs.KeysRise.{InOrder, IsAfter, keys_rise}
 use Rattle.round_trip.proofs.KeysTypes.{Key, Ident, Class, Feature}
@@ -110,23 +111,30 @@ module _ {A : Type 0} (f : A → Data) where
 
 -- ---- what stands under a key
 module _ (meta : Meta) where
-  plain_first : (scalar : Scalar) (default : Option Value) (upper : Option ℕ) (vs : List Value) → AreOk meta (Attr scalar default) upper vs → IsPlainIf (first_value meta scalar vs)
+  plain_first : (scalar : Scalar) (default : Option Value) (upper : Option ℕ) (vs : List Value) → AreOk meta (Attr scalar default) upper vs
+      → IsPlainIf (first_value meta scalar vs)
   plain_first scalar default upper [] ok = tt
   plain_first scalar default upper (v ∷ []) ok = plain_value meta scalar v ok.0
   plain_first scalar default upper (v ∷ w ∷ vs) ok = absurd ok
 
-  plain_many : (scalar : Scalar) (unique : Bool) (upper : Option ℕ) (vs : List Value) → AreOk meta (AttrMany scalar unique) upper vs → IsPlainIf (listed false (map (data_of meta scalar) vs))
+  plain_many : (scalar : Scalar) (unique : Bool) (upper : Option ℕ) (vs : List Value) → AreOk meta (AttrMany scalar unique) upper vs
+      → IsPlainIf (listed false (map (data_of meta scalar) vs))
   plain_many scalar unique upper [] ok = tt
   plain_many scalar unique upper (v ∷ vs) ok =
-      plain_listed (data_of meta scalar) false (v ∷ vs) (all_so (λ v. fits meta scalar v ≡ true) (λ v. IsPlain (data_of meta scalar v)) (λ v h. plain_value meta scalar v h) (v ∷ vs) (all_from (fits meta scalar) (v ∷ vs) ok.0))
+      plain_listed (data_of meta scalar) false (v ∷ vs)
+      (all_so (λ v. fits meta scalar v ≡ true) (λ v. IsPlain (data_of meta scalar v)) (λ v h. plain_value meta scalar v h) (v ∷ vs)
+      (all_from (fits meta scalar) (v ∷ vs) ok.0))
 
 module _ (meta : Meta) (m : State) (good : Good meta m) (below : IdBytes → Data) (plain : (e : IdBytes) → IsPlain (below e)) where
   plain_content : (e : IdBytes) (f : ℕ) (k : Kind) (upper : Option ℕ) → AreOk meta k upper (values_at m e f) → IsPlainIf (content meta m below e f k)
   plain_content e f (Attr scalar default) upper ok = plain_first meta scalar default upper (values_at m e f) ok
   plain_content e f (AttrMany scalar unique) upper ok = plain_many meta scalar unique upper (values_at m e f) ok
-  plain_content e f (Bounded target opposite) upper ok = plain_listed reference (is_single meta f) (target_ids m e f) (all_of (λ b. IsPlain (reference b)) (λ b. (tt, tt, tt)) (target_ids m e f))
-  plain_content e f (Free target opposite) upper ok = plain_listed reference (is_single meta f) (target_ids m e f) (all_of (λ b. IsPlain (reference b)) (λ b. (tt, tt, tt)) (target_ids m e f))
-  plain_content e f (Contains target opposite) upper ok = plain_listed below (is_single meta f) (child_ids m (Inside e f)) (all_of (λ c. IsPlain (below c)) plain (child_ids m (Inside e f)))
+  plain_content e f (Bounded target opposite) upper ok =
+      plain_listed reference (is_single meta f) (target_ids m e f) (all_of (λ b. IsPlain (reference b)) (λ b. (tt, tt, tt)) (target_ids m e f))
+  plain_content e f (Free target opposite) upper ok =
+      plain_listed reference (is_single meta f) (target_ids m e f) (all_of (λ b. IsPlain (reference b)) (λ b. (tt, tt, tt)) (target_ids m e f))
+  plain_content e f (Contains target opposite) upper ok =
+      plain_listed below (is_single meta f) (child_ids m (Inside e f)) (all_of (λ c. IsPlain (below c)) plain (child_ids m (Inside e f)))
   plain_content e f (Container target opposite) upper ok = tt
   plain_content e f Skip upper ok = tt
 
@@ -137,7 +145,8 @@ module _ (meta : Meta) (m : State) (good : Good meta m) (below : IdBytes → Dat
 
   plain_parts : (e : IdBytes) (c : ℕ) → AllByRecursion (λ k. IsPlainIf (part meta m below e c k)) (keys_of meta c)
   unfolding keys_of Ident Class Feature
-  plain_parts e c = all-in_order _ (λ k. IsPlainIf (part meta m below e c k)) (Ident ∷ Class ∷ map Feature (features_of meta c)) (tt, (tt, plain_features e c (features_of meta c)))
+  plain_parts e c = all-in_order _ (λ k. IsPlainIf (part meta m below e c k)) (Ident ∷ Class ∷ map Feature (features_of meta c))
+      (tt, (tt, plain_features e c (features_of meta c)))
 
 -- ---- objects
 module _ (meta : Meta) (p : Key → Option Data) where

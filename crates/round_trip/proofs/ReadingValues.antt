@@ -37,7 +37,8 @@ stands_any f (g ∷ fs) h = by_test (nat_eq f g) refl (stands_any f fs) h
 pub in_class : (meta : Meta) (c f : ℕ) → has_feature meta c f ≡ true → Stands f (features_of meta c)
 in_class meta c f h = by_class (slice_get meta.classes c) h
   where
-    by_class : (o : Option ClassOf) → option_map_or (λ class. list_any (nat_eq f) class.features) o false ≡ true → Stands f (option_map_or (λ class. class.features) o [])
+    by_class : (o : Option ClassOf) → option_map_or (λ class. list_any (nat_eq f) class.features) o false ≡ true
+        → Stands f (option_map_or (λ class. class.features) o [])
     by_class None h = cc
     by_class (Some class) h = stands_any f class.features h
 
@@ -59,7 +60,8 @@ has_at : (f : ℕ) (attrs : List DocAttr) → Has f attrs → Has f (attr_at f a
 has_at f [] h = h
 has_at f (a ∷ attrs) h = by_test (nat_eq f a.feature) refl (has_at f attrs) h
   where
-    by_test : (b : Bool) → nat_eq f a.feature ≡ b → (Has f attrs → Has f (attr_at f attrs)) → (f ≡ a.feature) ⊎ Has f attrs → Has f (cond b (a ∷ []) (attr_at f attrs))
+    by_test : (b : Bool) → nat_eq f a.feature ≡ b → (Has f attrs → Has f (attr_at f attrs)) → (f ≡ a.feature) ⊎ Has f attrs
+        → Has f (cond b (a ∷ []) (attr_at f attrs))
     by_test true e more h = inl (nat_equality.exact f a.feature e)
     by_test false e more (inl same) = let yes : nat_eq f a.feature ≡ true = subst (λ x. nat_eq f x ≡ true) same (nat_equality.own f) in cc
     by_test false e more (inr h) = more h
@@ -80,7 +82,8 @@ module _ (meta : Meta) (m : State) (e : IdBytes) where
   first_told f [] all (inr h) = absurd h
   first_told f (a ∷ attrs) all h = by_test (nat_eq f a.feature) refl (first_told f attrs all.1) h
     where
-      by_test : (b : Bool) → nat_eq f a.feature ≡ b → ((values_at m e f ≡ []) ⊎ Has f attrs → values_given f attrs ≡ values_at m e f) → (values_at m e f ≡ []) ⊎ ((f ≡ a.feature) ⊎ Has f attrs)
+      by_test : (b : Bool) → nat_eq f a.feature ≡ b → ((values_at m e f ≡ []) ⊎ Has f attrs → values_given f attrs ≡ values_at m e f)
+          → (values_at m e f ≡ []) ⊎ ((f ≡ a.feature) ⊎ Has f attrs)
           → first_values (cond b (a ∷ []) (attr_at f attrs)) ≡ values_at m e f
       by_test true is more h = all.0 ∙ ap (values_at m e) (sym (nat_equality.exact f a.feature is))
       by_test false is more (inl none) = more (inl none)
@@ -113,7 +116,8 @@ module _ (meta : Meta) (m : State) (e : IdBytes) where
   set_has : (f : ℕ) (v : Value) (vs xs : List Value) → xs ≡ v ∷ vs → Has f (set_attr f xs)
   set_has f v vs xs is = subst (λ ys. Has f (set_attr f ys)) (sym is) (inl refl)
 
-  kind_has : (f : ℕ) (k : Kind) (upper : Option ℕ) (v : Value) (vs : List Value) → ValuesOk meta k upper (v ∷ vs) → values_at m e f ≡ v ∷ vs → Has f (kind_attrs m e f k)
+  kind_has : (f : ℕ) (k : Kind) (upper : Option ℕ) (v : Value) (vs : List Value) → ValuesOk meta k upper (v ∷ vs) → values_at m e f ≡ v ∷ vs
+      → Has f (kind_attrs m e f k)
   kind_has f (Attr scalar default) upper v vs ok is = set_has f v vs (values_at m e f) is
   kind_has f (AttrMany scalar unique) upper v vs ok is = set_has f v vs (values_at m e f) is
   kind_has f (Bounded target opposite) upper v vs ok is = absurd ok
@@ -129,17 +133,22 @@ module _ (meta : Meta) (m : State) (e : IdBytes) where
   key_has f h (key ∷ keys) (inr s) = has_second f (key_attrs meta m e key) (keys_attrs meta m e keys) (key_has f h keys s)
 
   -- the values are none, or the attribute is one of the class, and is given
-  entry_has : (c f : ℕ) (o : Option (List Value)) → AttrOk meta (Some c) f o → get m.attr (e, f) ≡ o → (values_at m e f ≡ []) ⊎ (Stands f (features_of meta c) × Has f (kind_attrs m e f (kind_of meta f)))
+  entry_has : (c f : ℕ) (o : Option (List Value)) → AttrOk meta (Some c) f o → get m.attr (e, f) ≡ o
+      → (values_at m e f ≡ []) ⊎ (Stands f (features_of meta c) × Has f (kind_attrs m e f (kind_of meta f)))
   entry_has c f None ok is = inl (ap (λ o. unwrap_or o []) is)
   entry_has c f (Some []) ok is = inl (ap (λ o. unwrap_or o []) is)
   entry_has c f (Some (v ∷ vs)) ok is = inr (in_class meta c f ok.0, kind_has f (kind_of meta f) (upper_of meta f) v vs ok.1 (ap (λ o. unwrap_or o []) is))
 
-  pub values_are_told : Good meta m → (c : ℕ) → get m.kind e ≡ Some c → (f : ℕ) → values_given f (attrs_by (keys_attrs meta m e (keys_of meta c)) (features_of meta c)) ≡ values_at m e f
+  pub values_are_told : Good meta m → (c : ℕ) → get m.kind e ≡ Some c → (f : ℕ)
+      → values_given f (attrs_by (keys_attrs meta m e (keys_of meta c)) (features_of meta c)) ≡ values_at m e f
   values_are_told good c kind f =
       let attrs = keys_attrs meta m e (keys_of meta c) in
       let ok : AttrOk meta (Some c) f (get m.attr (e, f)) = subst (λ k. AttrOk meta k f (get m.attr (e, f))) kind (good.attrs.typed e f) in
-      first_told f (attrs_by attrs (features_of meta c)) (by_keeps IsTold attrs (features_of meta c) (keys_told (keys_of meta c))) (by_entry (entry_has c f (get m.attr (e, f)) ok refl))
+      first_told f (attrs_by attrs (features_of meta c)) (by_keeps IsTold attrs (features_of meta c) (keys_told (keys_of meta c)))
+      (by_entry (entry_has c f (get m.attr (e, f)) ok refl))
     where
-      by_entry : (values_at m e f ≡ []) ⊎ (Stands f (features_of meta c) × Has f (kind_attrs m e f (kind_of meta f))) → (values_at m e f ≡ []) ⊎ Has f (attrs_by (keys_attrs meta m e (keys_of meta c)) (features_of meta c))
+      by_entry : (values_at m e f ≡ []) ⊎ (Stands f (features_of meta c) × Has f (kind_attrs m e f (kind_of meta f)))
+          → (values_at m e f ≡ []) ⊎ Has f (attrs_by (keys_attrs meta m e (keys_of meta c)) (features_of meta c))
       by_entry (inl none) = inl none
-      by_entry (inr h) = inr (has_by f (keys_attrs meta m e (keys_of meta c)) (features_of meta c) h.0 (key_has f h.1 (keys_of meta c) (feature_stands meta c f h.0)))
+      by_entry (inr h) = inr
+          (has_by f (keys_attrs meta m e (keys_of meta c)) (features_of meta c) h.0 (key_has f h.1 (keys_of meta c) (feature_stands meta c f h.0)))

@@ -77,12 +77,16 @@ few n (Some u) h k = let e : u ≡ 1 = nat_equality.exact u 1 h in by_le (subst 
     by_le k = grind (arith, nat_tests)
 
 module _ (meta : Meta) (m : State) (good : Good meta m) where
-  pub bounded_few : (a : IdBytes) (f target : ℕ) (opposite : Option ℕ) → kind_of meta f ≡ Bounded target opposite → is_single meta f ≡ true → length (target_ids m a f) ≤ 1
+  pub bounded_few : (a : IdBytes) (f target : ℕ) (opposite : Option ℕ) → kind_of meta f ≡ Bounded target opposite → is_single meta f ≡ true
+      → length (target_ids m a f) ≤ 1
   bounded_few a f target opposite kind single =
       let upper : row_upper meta f ≡ upper_of meta f = ap (λ k. cond (bounded_kind k) (upper_of meta f) None) kind in
-      subst (λ n. n ≤ 1) (sym (target_count m a f)) (few _ (upper_of meta f) single (subst (λ u. is_within (count (λ e. text_eq a e.0.0 && nat_eq f e.0.1) m.row) u ≡ true) upper (good.rows.bound a f)))
+      subst (λ n. n ≤ 1) (sym (target_count m a f))
+      (few _ (upper_of meta f) single
+      (subst (λ u. is_within (count (λ e. text_eq a e.0.0 && nat_eq f e.0.1) m.row) u ≡ true) upper (good.rows.bound a f)))
 
-  pub free_few : IsBounded meta → (a : IdBytes) (f target : ℕ) (opposite : Option ℕ) → kind_of meta f ≡ Free target opposite → is_single meta f ≡ true → length (target_ids m a f) ≤ 1
+  pub free_few : IsBounded meta → (a : IdBytes) (f target : ℕ) (opposite : Option ℕ) → kind_of meta f ≡ Free target opposite → is_single meta f ≡ true
+      → length (target_ids m a f) ≤ 1
   free_few bounds a f target opposite kind single = by_feature (slice_get meta.features f) refl kind single
     where
       -- a reference without a bound is not single
@@ -90,11 +94,14 @@ module _ (meta : Meta) (m : State) (good : Good meta m) where
       neither None h k = cc
       neither (Some n) h k = cc
 
-      by_feature : (o : Option Feature) → slice_get meta.features f ≡ o → option_map_or (λ (x : Feature). x.kind) o Skip ≡ Free target opposite → is_one (option_map_or (λ (x : Feature). x.upper) o None) ≡ true → length (target_ids m a f) ≤ 1
+      by_feature : (o : Option Feature) → slice_get meta.features f ≡ o → option_map_or (λ (x : Feature). x.kind) o Skip ≡ Free target opposite
+          → is_one (option_map_or (λ (x : Feature). x.upper) o None) ≡ true → length (target_ids m a f) ≤ 1
       by_feature None is kind single = cc
       by_feature (Some x) is kind single = absurd (neither x.upper (subst (λ k. agrees k x.upper ≡ true) kind (bounds.agree f x is)) single)
 
-  pub children_within : (a : IdBytes) (f target : ℕ) (opposite : Option ℕ) → kind_of meta f ≡ Contains target opposite → is_within (length (child_ids m (Inside a f))) (upper_of meta f) ≡ true
+  pub children_within : (a : IdBytes) (f target : ℕ) (opposite : Option ℕ) → kind_of meta f ≡ Contains target opposite
+      → is_within (length (child_ids m (Inside a f))) (upper_of meta f) ≡ true
   children_within a f target opposite kind =
       let upper : child_upper meta f ≡ upper_of meta f = ap (λ k. cond (is_containment k) (upper_of meta f) None) kind in
-      subst (λ n. is_within n (upper_of meta f) ≡ true) (sym (child_count m (Inside a f))) (subst (λ u. is_within (count (λ e. place_eq (Inside a f) e.1) m.place) u ≡ true) upper (good.places.bound a f))
+      subst (λ n. is_within n (upper_of meta f) ≡ true) (sym (child_count m (Inside a f)))
+      (subst (λ u. is_within (count (λ e. place_eq (Inside a f) e.1) m.place) u ≡ true) upper (good.places.bound a f))

@@ -40,7 +40,8 @@ pub entry_stands : (d : IdBytes) (xs : List Entry) → list_any (λ (x : Entry).
 entry_stands d [] h = cc
 entry_stands d (x ∷ xs) h = by_test (text_eq d x.id) refl (entry_stands d xs) h
   where
-    by_test : (b : Bool) → text_eq d x.id ≡ b → (list_any (λ (x : Entry). text_eq d x.id) xs ≡ true → Stands d (map (λ (x : Entry). x.id) xs)) → b || list_any (λ (x : Entry). text_eq d x.id) xs ≡ true
+    by_test : (b : Bool) → text_eq d x.id ≡ b → (list_any (λ (x : Entry). text_eq d x.id) xs ≡ true → Stands d (map (λ (x : Entry). x.id) xs))
+        → b || list_any (λ (x : Entry). text_eq d x.id) xs ≡ true
         → (d ≡ x.id) ⊎ Stands d (map (λ (x : Entry). x.id) xs)
     by_test true e more h = inl (text_equality.exact d x.id e)
     by_test false e more h = inr (more h)
@@ -48,9 +49,12 @@ entry_stands d (x ∷ xs) h = by_test (text_eq d x.id) refl (entry_stands d xs) 
 pub child_stands : (m : State) (d : IdBytes) (p : Place) → get m.place d ≡ Some p → Stands d (child_ids m p)
 child_stands m d p at =
     entry_stands d (children m.place m.prank p)
-    (any-in_order entry_cmp (λ (x : Entry). text_eq d x.id) (map (λ (e : IdBytes × Place). record { rank = rank_at m.prank e.0; id = e.0 }) (picked (λ (e : IdBytes × Place). place_eq p e.1) m.place))
-    ∙ any-map (λ (x : Entry). text_eq d x.id) (λ (e : IdBytes × Place). record { rank = rank_at m.prank e.0; id = e.0 }) (picked (λ (e : IdBytes × Place). place_eq p e.1) m.place)
-    ∙ picked_has id_order (λ (e : IdBytes × Place). place_eq p e.1) m.place (λ (e : IdBytes × Place). text_eq d e.0) d p at (place_equality.own p) (text_equality.own d))
+    (any-in_order entry_cmp (λ (x : Entry). text_eq d x.id)
+    (map (λ (e : IdBytes × Place). record { rank = rank_at m.prank e.0; id = e.0 }) (picked (λ (e : IdBytes × Place). place_eq p e.1) m.place))
+    ∙ any-map (λ (x : Entry). text_eq d x.id) (λ (e : IdBytes × Place). record { rank = rank_at m.prank e.0; id = e.0 })
+    (picked (λ (e : IdBytes × Place). place_eq p e.1) m.place)
+    ∙ picked_has id_order (λ (e : IdBytes × Place). place_eq p e.1) m.place (λ (e : IdBytes × Place). text_eq d e.0) d p at (place_equality.own p)
+    (text_equality.own d))
 
 -- ---- lists one after another
 stands_first : {A : Type 0} (x : A) (xs ys : List A) → Stands x xs → Stands x (xs ++ ys)
@@ -73,10 +77,12 @@ inside_of None e is = cc
 inside_of (Some Root) e is = cc
 inside_of (Some (Inside a f)) e is = let same : a ≡ e = cc in (f, ap (λ (z : IdBytes). Some (Inside z f)) same)
 
-pub down : (m : State) (k : ℕ) (x e : IdBytes) → above m (suc k) x ≡ Some e → (d : IdBytes) × (g : ℕ) × (above m k x ≡ Some d) × (get m.place d ≡ Some (Inside e g))
+pub down : (m : State) (k : ℕ) (x e : IdBytes) → above m (suc k) x ≡ Some e
+    → (d : IdBytes) × (g : ℕ) × (above m k x ≡ Some d) × (get m.place d ≡ Some (Inside e g))
 down m k x e is = by_above (above m k x) refl is
   where
-    by_above : (o : Option IdBytes) → above m k x ≡ o → option_and_then (up m) o ≡ Some e → (d : IdBytes) × (g : ℕ) × (above m k x ≡ Some d) × (get m.place d ≡ Some (Inside e g))
+    by_above : (o : Option IdBytes) → above m k x ≡ o → option_and_then (up m) o ≡ Some e
+        → (d : IdBytes) × (g : ℕ) × (above m k x ≡ Some d) × (get m.place d ≡ Some (Inside e g))
     by_above None at is = cc
     by_above (Some d) at is = let p = inside_of (get m.place d) e is in (d, p.0, at, p.1)
 
@@ -112,7 +118,8 @@ module _ (meta : Meta) (m : State) (good : Good meta m) where
           record { class = is ∙ ap (λ x. Some x) same; feature = subst (λ x. Stands g (features_of meta x)) same (in_class meta c g has); kind = kind }
 
   -- the children of an element in a containment are among the names of its keys
-  pub key_is : (below : IdBytes → List IdBytes) (e : IdBytes) (g : ℕ) → IsContains (kind_of meta g) → key_names meta m below e (Feature g) ≡ flat below (child_ids m (Inside e g))
+  pub key_is : (below : IdBytes → List IdBytes) (e : IdBytes) (g : ℕ) → IsContains (kind_of meta g)
+      → key_names meta m below e (Feature g) ≡ flat below (child_ids m (Inside e g))
   unfolding keys_of Feature
   key_is below e g k = ap (kind_names m below e g) k.2
 
@@ -123,21 +130,26 @@ module _ (meta : Meta) (m : State) (good : Good meta m) where
     pub some_depth : (e : IdBytes) (c : ℕ) → get m.kind e ≡ Some c → depth (whole meta m e) ≤ 0 → ⊥
     some_depth e c kind h = let l = ap depth (shape e c kind) in omega arith
 
-    content_depth : (e : IdBytes) (n g : ℕ) → Holds meta m e g → depth (whole meta m e) ≤ suc n → IsWithinIf n (listed (is_single meta g) (map (whole meta m) (child_ids m (Inside e g))))
+    content_depth : (e : IdBytes) (n g : ℕ) → Holds meta m e g → depth (whole meta m e) ≤ suc n
+        → IsWithinIf n (listed (is_single meta g) (map (whole meta m) (child_ids m (Inside e g))))
     unfolding keys_of Feature
     content_depth e n g h deep =
         let c = class_at meta m e in
         let p = part meta m (whole meta m) e c in
         let shallow : members_depth (members (key_name meta) p (keys_of meta c)) ≤ n = let l = ap depth (shape e c h.class) in omega arith in
         subst (λ k. IsWithinIf n (content meta m (whole meta m) e g k)) h.kind.2
-        (all_stand (λ k. IsWithinIf n (p k)) (keys_of meta c) (depths (key_name meta) p n (keys_of meta c) shallow) (Feature g) (feature_stands meta c g h.feature))
+        (all_stand (λ k. IsWithinIf n (p k)) (keys_of meta c) (depths (key_name meta) p n (keys_of meta c) shallow) (Feature g)
+        (feature_stands meta c g h.feature))
 
     pub child_depth : (e d : IdBytes) (n g : ℕ) → get m.place d ≡ Some (Inside e g) → depth (whole meta m e) ≤ suc n → depth (whole meta m d) ≤ n
     child_depth e d n g at deep =
-        all_stand (λ c. depth (whole meta m c) ≤ n) (child_ids m (Inside e g)) (listed_depths (whole meta m) n (is_single meta g) (child_ids m (Inside e g)) (content_depth e n g (holds e d g at) deep)) d (child_stands m d (Inside e g) at)
+        all_stand (λ c. depth (whole meta m c) ≤ n) (child_ids m (Inside e g))
+        (listed_depths (whole meta m) n (is_single meta g) (child_ids m (Inside e g)) (content_depth e n g (holds e d g at) deep)) d
+        (child_stands m d (Inside e g) at)
 
     -- an element stands in the tree of each of its containers
-    pub covered : (k n : ℕ) (x e : IdBytes) (c : ℕ) → above m k x ≡ Some e → get m.kind e ≡ Some c → depth (whole meta m e) ≤ n → Stands x (tree_names meta m n e)
+    pub covered : (k n : ℕ) (x e : IdBytes) (c : ℕ) → above m k x ≡ Some e → get m.kind e ≡ Some c → depth (whole meta m e) ≤ n
+        → Stands x (tree_names meta m n e)
     covered k zero x e c is kind deep = absurd (some_depth e c kind deep)
     covered zero (suc n) x e c is kind deep = let same : x ≡ e = cc in subst (Stands x) (sym (names_step meta m n e)) (inl same)
     covered (suc k) (suc n) x e c is kind deep =
@@ -146,5 +158,7 @@ module _ (meta : Meta) (m : State) (good : Good meta m) where
         let child = placed meta m.kind (get m.kind d.0) (get m.place d.0) (Inside e d.1) (get m.prank d.0) (good.places.stands d.0) d.3 in
         let inner = covered k n x d.0 child.0 d.2 child.1 (child_depth e d.0 n d.1 d.3 deep) in
         subst (Stands x) (sym (names_step meta m n e))
-        (inr (stands_flat (key_names meta m (tree_names meta m n) e) (Feature d.1) x (keys_of meta (class_at meta m e)) (feature_stands meta (class_at meta m e) d.1 h.feature)
-        (subst (Stands x) (sym (key_is (tree_names meta m n) e d.1 h.kind)) (stands_flat (tree_names meta m n) d.0 x (child_ids m (Inside e d.1)) (child_stands m d.0 (Inside e d.1) d.3) inner))))
+        (inr (stands_flat (key_names meta m (tree_names meta m n) e) (Feature d.1) x (keys_of meta (class_at meta m e))
+        (feature_stands meta (class_at meta m e) d.1 h.feature)
+        (subst (Stands x) (sym (key_is (tree_names meta m n) e d.1 h.kind))
+        (stands_flat (tree_names meta m n) d.0 x (child_ids m (Inside e d.1)) (child_stands m d.0 (Inside e d.1) d.3) inner))))

@@ -45,7 +45,8 @@ module _ (m : State) where
   one_chain (Some Root) (x ∷ xs) ys g h = absurd g
   one_chain (Some (Inside a f)) [] ys g h = absurd g
   one_chain (Some (Inside a f)) (x ∷ xs) [] g h = absurd h
-  one_chain (Some (Inside a f)) (x ∷ xs) (y ∷ ys) g h = ap suc (one_chain (get m.place x) xs ys g.1 (subst (λ z. IsChain m.place (get m.place z) ys) (h.0 ∙ sym g.0) h.1))
+  one_chain (Some (Inside a f)) (x ∷ xs) (y ∷ ys) g h =
+      ap suc (one_chain (get m.place x) xs ys g.1 (subst (λ z. IsChain m.place (get m.place z) ys) (h.0 ∙ sym g.0) h.1))
 
   pub one_level : (x : IdBytes) (i j : ℕ) → Level m x i → Level m x j → i ≡ j
   one_level x i j g h = sym g.2 ∙ one_chain (get m.place x) g.0 h.0 g.1 h.1 ∙ h.2
@@ -73,7 +74,8 @@ module _ (m : State) where
       more : (k j : ℕ) → k + suc j ≡ suc k + j
       more k j = omega arith
 
-      by_above : (o : Option IdBytes) → above m k x ≡ o → option_and_then (up m) o ≡ Some c → ((y : IdBytes) → above m k x ≡ Some y → up m y ≡ Some c → Level m x (k + suc j)) → Level m x (suc k + j)
+      by_above : (o : Option IdBytes) → above m k x ≡ o → option_and_then (up m) o ≡ Some c
+          → ((y : IdBytes) → above m k x ≡ Some y → up m y ≡ Some c → Level m x (k + suc j)) → Level m x (suc k + j)
       by_above None at is go = cc
       by_above (Some y) at is go = let l = go y at is in (l.0, l.1, l.2 ∙ more k j)
 
@@ -89,13 +91,17 @@ module _ (m : State) where
   not_inside e j k l is = let same = one_level e j (suc k + j) l (lift_level (suc k) e e j is l) in omega arith
 
   -- each element that stands is under one at the root
-  pub root_above : (x : IdBytes) (xs : List IdBytes) → IsChain m.place (get m.place x) xs → (r : IdBytes) × (k : ℕ) × (above m k x ≡ Some r) × (get m.place r ≡ Some Root)
+  pub root_above : (x : IdBytes) (xs : List IdBytes) → IsChain m.place (get m.place x) xs
+      → (r : IdBytes) × (k : ℕ) × (above m k x ≡ Some r) × (get m.place r ≡ Some Root)
   root_above x xs chain = go xs x 0 (get m.place x) refl refl chain
     where
-      go : (xs : List IdBytes) (y : IdBytes) (k : ℕ) (o : Option Place) → above m k x ≡ Some y → get m.place y ≡ o → IsChain m.place o xs → (r : IdBytes) × (k : ℕ) × (above m k x ≡ Some r) × (get m.place r ≡ Some Root)
+      go : (xs : List IdBytes) (y : IdBytes) (k : ℕ) (o : Option Place) → above m k x ≡ Some y → get m.place y ≡ o → IsChain m.place o xs
+          → (r : IdBytes) × (k : ℕ) × (above m k x ≡ Some r) × (get m.place r ≡ Some Root)
       go [] y k None is at chain = absurd chain
       go [] y k (Some Root) is at chain = (y, k, is, at)
       go [] y k (Some (Inside a f)) is at chain = absurd chain
       go (z ∷ xs) y k None is at chain = absurd chain
       go (z ∷ xs) y k (Some Root) is at chain = absurd chain
-      go (z ∷ xs) y k (Some (Inside a f)) is at chain = go xs z (suc k) (get m.place z) (ap (option_and_then (up m)) is ∙ ap (option_and_then parent_of) at ∙ ap (λ (w : IdBytes). Some w) (sym chain.0)) refl chain.1
+      go (z ∷ xs) y k (Some (Inside a f)) is at chain =
+          go xs z (suc k) (get m.place z)
+          (ap (option_and_then (up m)) is ∙ ap (option_and_then parent_of) at ∙ ap (λ (w : IdBytes). Some w) (sym chain.0)) refl chain.1

@@ -1,5 +1,6 @@
 -- The names of a model that stand in a place are its elements, in their order.
-use Rattle.std.proofs.Common.{◌≡◌, ℕ, zero, suc, ◌+◌, ◌≤◌, Bool, true, false, cond, List, [], ◌∷◌, ◌++◌, refl, sym, ap, subst, ◌∙◌, arith, append-nil, ◌⊎◌, inl, inr}
+use Rattle.std.proofs.Common.{◌≡◌, ℕ, zero, suc, ◌+◌, ◌≤◌, Bool, true, false, cond, List, [], ◌∷◌, ◌++◌, refl, sym, ap, subst, ◌∙◌, arith, append-nil}
+use Rattle.std.proofs.Common.{◌⊎◌, inl, inr}
 use Rattle.std.specs.Prelude.{Option, None, Some, option_and_then}
 use Rattle.std.specs.FinMap.{FinMap, get}
 use Rattle.std.specs.List.{AllByRecursion}
@@ -25,7 +26,8 @@ use Rattle.round_trip.proofs.KeysTypes.{Key, Feature, feature_number}
 use Rattle.round_trip.proofs.ReadingTrees.{all_of, all_so}
 use Rattle.round_trip.proofs.WalksApart.{Differ, InKey, children_differ, key_in, under_tree}
 use Rattle.round_trip.proofs.WalksDown.{Holds, child_depth, child_stands, covered, down, holds, key_is, some_depth, stands_flat}
-use Rattle.round_trip.proofs.WalksLevels.{Level, Under, above, inside_level, inside_up, lift_level, not_inside, one_level, root_above, root_level, same_above, under_own, up}
+use Rattle.round_trip.proofs.WalksLevels.{Level, Under, above, inside_level, inside_up, lift_level, not_inside, one_level, root_above, root_level}
+use Rattle.round_trip.proofs.WalksLevels.{same_above, under_own, up}
 use Rattle.round_trip.proofs.WalksNames.{all_flat, flat, key_names, names_step, tree_names}
 use Rattle.round_trip.proofs.WalksRows.{class_at}
 use Rattle.round_trip.proofs.WalksWhole.{all_both, placed}
@@ -73,11 +75,16 @@ module _ (m : State) (p : Place) where
       ]
 
   -- of lists one after another, where all but one keep nothing
-  kept_one : {A : Type 0} (g : A → List IdBytes) (R : A → A → Type 0) (Q : A → Type 0) (a : A) → ((b : A) → Q b → R a b ⊎ R b a → AllByRecursion IsAway (g b)) → (xs : List A) → Pairs R xs → AllByRecursion Q xs → Stands a xs → kept (flat g xs) ≡ kept (g a)
+  kept_one : {A : Type 0} (g : A → List IdBytes) (R : A → A → Type 0) (Q : A → Type 0) (a : A)
+      → ((b : A) → Q b → R a b ⊎ R b a → AllByRecursion IsAway (g b)) → (xs : List A) → Pairs R xs → AllByRecursion Q xs → Stands a xs
+      → kept (flat g xs) ≡ kept (g a)
   kept_one g R Q a away [] pairs all s = absurd s
   kept_one g R Q a away (b ∷ rest) pairs all (inl e) =
       kept_append (g b) (flat g rest)
-      ∙ ap (λ ys. kept (g b) ++ ys) (kept_none (flat g rest) (all_flat g IsAway rest (all_both (R b) Q (λ c. AllByRecursion IsAway (g c)) (λ c r q. away c q (inl (subst (λ z. R z c) (sym e) r))) rest pairs.0 all.1)))
+      ∙ ap (λ ys. kept (g b) ++ ys)
+      (kept_none (flat g rest)
+      (all_flat g IsAway rest
+      (all_both (R b) Q (λ c. AllByRecursion IsAway (g c)) (λ c r q. away c q (inl (subst (λ z. R z c) (sym e) r))) rest pairs.0 all.1)))
       ∙ append-nil (kept (g b)) ∙ ap (λ z. kept (g z)) (sym e)
   kept_one g R Q a away (b ∷ rest) pairs all (inr s) =
       kept_append (g b) (flat g rest)
@@ -94,8 +101,10 @@ module _ (m : State) (p : Place) where
 
 module _ (meta : Meta) (named : IsNamed meta) (m : State) (good : Good meta m) (nested : IsNested meta m) where
   -- an element of the place alone, where all of the place stand equally deep
-  alone_kept : (p : Place) (j : ℕ) → ((y : IdBytes) → get m.place y ≡ Some p → Level m y j) → (n : ℕ) (c : IdBytes) → get m.place c ≡ Some p → depth (whole meta m c) ≤ n → kept m p (tree_names meta m n c) ≡ c ∷ []
-  alone_kept p j level zero c at deep = let x = placed meta m.kind (get m.kind c) (get m.place c) p (get m.prank c) (good.places.stands c) at in absurd (some_depth meta m good nested c x.0 x.1 deep)
+  alone_kept : (p : Place) (j : ℕ) → ((y : IdBytes) → get m.place y ≡ Some p → Level m y j) → (n : ℕ) (c : IdBytes) → get m.place c ≡ Some p
+      → depth (whole meta m c) ≤ n → kept m p (tree_names meta m n c) ≡ c ∷ []
+  alone_kept p j level zero c at deep = let x = placed meta m.kind (get m.kind c) (get m.place c) p (get m.prank c) (good.places.stands c) at
+      in absurd (some_depth meta m good nested c x.0 x.1 deep)
   alone_kept p j level (suc n) c at deep =
       let keys = keys_of meta (class_at meta m c) in
       let below = tree_names meta m n in
@@ -103,10 +112,12 @@ module _ (meta : Meta) (named : IsNamed meta) (m : State) (good : Good meta m) (
       ∙ kept_here m p c (flat (key_names meta m below c) keys) at
       ∙ ap (λ xs. c ∷ xs) (kept_none m p (flat (key_names meta m below c) keys)
       (all_flat (key_names meta m below c) (IsAway m p) keys (all_of (λ key. AllByRecursion (IsAway m p) (key_names meta m below c key))
-      (λ key. all_so (InKey meta m c (key_number key)) (IsAway m p) (λ y i there. deeper c y (key_number key) i (level c at) (level y there)) (key_names meta m below c key) (key_in meta m below (under_tree meta m n) c key)) keys)))
+      (λ key. all_so (InKey meta m c (key_number key)) (IsAway m p) (λ y i there. deeper c y (key_number key) i (level c at) (level y there))
+      (key_names meta m below c key) (key_in meta m below (under_tree meta m n) c key)) keys)))
     where
       deeper : (c y : IdBytes) (number : ℕ) → InKey meta m c number y → Level m c j → Level m y j → ⊥
-      deeper c y number i l k = let same = one_level m y (i.2.2.0 + suc j) j (lift_level m i.2.2.0 y i.2.0 (suc j) i.2.2.1 (inside_level m c i.2.0 i.0 j i.2.1 l)) k in omega arith
+      deeper c y number i l k = let same =
+          one_level m y (i.2.2.0 + suc j) j (lift_level m i.2.2.0 y i.2.0 (suc j) i.2.2.1 (inside_level m c i.2.0 i.0 j i.2.1 l)) k in omega arith
 
   module _ (x : IdBytes) (f : ℕ) (held : Holds meta m x f) where
     -- the place of the children of the element in the feature
@@ -128,23 +139,28 @@ module _ (meta : Meta) (named : IsNamed meta) (m : State) (good : Good meta m) (
     here_under : (k : ℕ) (d y : IdBytes) → above m k x ≡ Some d → get m.place y ≡ Some here → Under m d y
     here_under k d y is at = (suc k, above_shift m x y k (inside_up m x y f at) ∙ is)
 
-    own_kept : (n j : ℕ) → Level m x j → depth (whole meta m x) ≤ suc n → kept m here (flat (key_names meta m (tree_names meta m n) x) (keys_of meta (class_at meta m x))) ≡ child_ids m here
+    own_kept : (n j : ℕ) → Level m x j → depth (whole meta m x) ≤ suc n
+        → kept m here (flat (key_names meta m (tree_names meta m n) x) (keys_of meta (class_at meta m x))) ≡ child_ids m here
     own_kept n j level deep =
         let below = tree_names meta m n in
         let keys = keys_of meta (class_at meta m x) in
         kept_one m here (key_names meta m below x) NumbersApart (λ key. Unit {0}) (Feature f)
         (λ key u apart. all_so (InKey meta m x (key_number key)) (IsAway m here) (λ y i at.
         let same = same_above m y i.2.0 y (suc j) i.2.2 (under_own m y) (inside_level m x i.2.0 i.0 j i.2.1 level) (inside_level m x y f j at level) in
-        no_key i.0 f key (feature_same i.2.0 y x i.0 f same i.2.1 at) i.1 apart) (key_names meta m below x key) (key_in meta m below (under_tree meta m n) x key))
+        no_key i.0 f key (feature_same i.2.0 y x i.0 f same i.2.1 at) i.1 apart) (key_names meta m below x key)
+        (key_in meta m below (under_tree meta m n) x key))
         keys (keys_apart meta named (class_at meta m x)) (all_of (λ key. Unit {0}) (λ key. tt) keys) (feature_stands meta (class_at meta m x) f held.feature)
         ∙ ap (kept m here) (key_is meta m good below x f held.kind)
         ∙ kept_each m here below (child_ids m here)
-        (all_so (λ c. get m.place c ≡ Some here) (λ c. kept m here (below c) ≡ c ∷ []) (λ c at. alone_kept here (suc j) (λ y there. inside_level m x y f j there level) n c at (child_depth meta m good nested x c n f at deep)) (child_ids m here) (each_child m here))
+        (all_so (λ c. get m.place c ≡ Some here) (λ c. kept m here (below c) ≡ c ∷ [])
+        (λ c at. alone_kept here (suc j) (λ y there. inside_level m x y f j there level) n c at (child_depth meta m good nested x c n f at deep))
+        (child_ids m here) (each_child m here))
 
     away_from_own : (k j : ℕ) (e : IdBytes) → above m k x ≡ Some e → Level m e j → IsAway m here e
     away_from_own k j e is level at = not_inside m x (k + j) k (lift_level m k x e j is level) (ap (option_and_then (up m)) is ∙ inside_up m x e f at)
 
-    down_kept : (k n j : ℕ) (e : IdBytes) (c : ℕ) → above m k x ≡ Some e → get m.kind e ≡ Some c → depth (whole meta m e) ≤ n → Level m e j → kept m here (tree_names meta m n e) ≡ child_ids m here
+    down_kept : (k n j : ℕ) (e : IdBytes) (c : ℕ) → above m k x ≡ Some e → get m.kind e ≡ Some c → depth (whole meta m e) ≤ n → Level m e j
+        → kept m here (tree_names meta m n e) ≡ child_ids m here
     down_kept k zero j e c is kind deep level = absurd (some_depth meta m good nested e c kind deep)
     down_kept zero (suc n) j e c is kind deep level =
         let same : x ≡ e = cc in
@@ -165,15 +181,20 @@ module _ (meta : Meta) (named : IsNamed meta) (m : State) (good : Good meta m) (
         ∙ kept_one m here (key_names meta m below e) NumbersApart (λ key. Unit {0}) (Feature g)
         (λ key u apart. all_so (InKey meta m e (key_number key)) (IsAway m here) (λ y i at.
         let same = same_above m y i.2.0 d.0 (suc j) i.2.2 (here_under k d.0 y d.2 at) (inside_level m e i.2.0 i.0 j i.2.1 level) deeper in
-        no_key i.0 g key (feature_same i.2.0 d.0 e i.0 g same i.2.1 d.3) i.1 apart) (key_names meta m below e key) (key_in meta m below (under_tree meta m n) e key))
+        no_key i.0 g key (feature_same i.2.0 d.0 e i.0 g same i.2.1 d.3) i.1 apart) (key_names meta m below e key)
+        (key_in meta m below (under_tree meta m n) e key))
         keys (keys_apart meta named (class_at meta m e)) (all_of (λ key. Unit {0}) (λ key. tt) keys) (feature_stands meta (class_at meta m e) g h.feature)
         ∙ ap (kept m here) (key_is meta m good below e g h.kind)
         ∙ kept_one m here below Differ (λ b. get m.place b ≡ Some (Inside e g)) d.0
-        (λ b at apart. all_so (Under m b) (IsAway m here) (λ y u there. no_child b d.0 (same_above m y b d.0 (suc j) u (here_under k d.0 y d.2 there) (inside_level m e b g j at level) deeper) apart) (below b) (under_tree meta m n b))
+        (λ b at apart. all_so (Under m b) (IsAway m here)
+        (λ y u there. no_child b d.0
+        (same_above m y b d.0 (suc j) u (here_under k d.0 y d.2 there) (inside_level m e b g j at level) deeper) apart) (below b)
+        (under_tree meta m n b))
         (child_ids m (Inside e g)) (children_differ meta m good (Inside e g)) (each_child m (Inside e g)) (child_stands m d.0 (Inside e g) d.3)
         ∙ down_kept k n (suc j) d.0 child.0 d.2 child.1 (child_depth meta m good nested e d.0 n g d.3 deep) deeper
 
-  live_placed : (kind : FinMap id_cmp ℕ) (k : Option ℕ) (q : Option Place) (r : Option ℕ) (c : ℕ) → PlaceOk meta kind k q r → k ≡ Some c → (p : Place) × (q ≡ Some p)
+  live_placed : (kind : FinMap id_cmp ℕ) (k : Option ℕ) (q : Option Place) (r : Option ℕ) (c : ℕ) → PlaceOk meta kind k q r → k ≡ Some c
+      → (p : Place) × (q ≡ Some p)
   live_placed kind None q r c ok is = cc
   live_placed kind (Some d) None r c ok is = absurd ok
   live_placed kind (Some d) (Some p) r c ok is = (p, refl)
@@ -193,23 +214,29 @@ module _ (meta : Meta) (named : IsNamed meta) (m : State) (good : Good meta m) (
     root_kept : kept m Root names ≡ child_ids m Root
     root_kept =
         kept_each m Root (tree_names meta m n) (child_ids m Root)
-        (all_both (λ c. get m.place c ≡ Some Root) (λ c. depth (whole meta m c) ≤ n) (λ c. kept m Root (tree_names meta m n c) ≡ c ∷ []) (λ c at d. alone_kept Root 0 (λ y there. root_level m y there) n c at d) (child_ids m Root) (each_child m Root) deep)
+        (all_both (λ c. get m.place c ≡ Some Root) (λ c. depth (whole meta m c) ≤ n) (λ c. kept m Root (tree_names meta m n c) ≡ c ∷ [])
+        (λ c at d. alone_kept Root 0 (λ y there. root_level m y there) n c at d) (child_ids m Root) (each_child m Root) deep)
 
     held_kept : (x : IdBytes) (f : ℕ) → Holds meta m x f → kept m (Inside x f) names ≡ child_ids m (Inside x f)
     held_kept x f held =
         let r = live_root x (class_at meta m x) held.class in
         let root = placed meta m.kind (get m.kind r.0) (get m.place r.0) Root (get m.prank r.0) (good.places.stands r.0) r.3 in
         kept_one m (Inside x f) (tree_names meta m n) Differ (λ b. get m.place b ≡ Some Root) r.0
-        (λ b at apart. all_so (Under m b) (IsAway m (Inside x f)) (λ y u there. no_child x f held b r.0 (same_above m y b r.0 0 u (here_under x f held r.1 r.0 y r.2 there) (root_level m b at) (root_level m r.0 r.3)) apart) (tree_names meta m n b) (under_tree meta m n b))
+        (λ b at apart. all_so (Under m b) (IsAway m (Inside x f))
+        (λ y u there. no_child x f held b r.0
+        (same_above m y b r.0 0 u (here_under x f held r.1 r.0 y r.2 there) (root_level m b at) (root_level m r.0 r.3)) apart)
+        (tree_names meta m n b) (under_tree meta m n b))
         (child_ids m Root) (children_differ meta m good Root) (each_child m Root) (child_stands m r.0 Root r.3)
-        ∙ down_kept x f held r.1 n 0 r.0 root.0 r.2 root.1 (all_stand (λ c. depth (whole meta m c) ≤ n) (child_ids m Root) deep r.0 (child_stands m r.0 Root r.3)) (root_level m r.0 r.3)
+        ∙ down_kept x f held r.1 n 0 r.0 root.0 r.2 root.1
+        (all_stand (λ c. depth (whole meta m c) ≤ n) (child_ids m Root) deep r.0 (child_stands m r.0 Root r.3)) (root_level m r.0 r.3)
 
     -- those of a place are its elements
     pub names_kept : (p : Place) → kept m p names ≡ child_ids m p
     names_kept Root = root_kept
     names_kept (Inside x f) = by_children (child_ids m (Inside x f)) refl (each_child m (Inside x f))
       where
-        by_children : (cs : List IdBytes) → child_ids m (Inside x f) ≡ cs → AllByRecursion (λ c. get m.place c ≡ Some (Inside x f)) cs → kept m (Inside x f) names ≡ child_ids m (Inside x f)
+        by_children : (cs : List IdBytes) → child_ids m (Inside x f) ≡ cs → AllByRecursion (λ c. get m.place c ≡ Some (Inside x f)) cs
+            → kept m (Inside x f) names ≡ child_ids m (Inside x f)
         by_children [] is all = kept_empty m (Inside x f) is names ∙ sym is
         by_children (c ∷ cs) is all = held_kept x f (holds meta m good x c f all.0)
 
@@ -219,4 +246,5 @@ module _ (meta : Meta) (named : IsNamed meta) (m : State) (good : Good meta m) (
         let r = live_root x c kind in
         let root = placed meta m.kind (get m.kind r.0) (get m.place r.0) Root (get m.prank r.0) (good.places.stands r.0) r.3 in
         stands_flat (tree_names meta m n) r.0 x (child_ids m Root) (child_stands m r.0 Root r.3)
-        (covered meta m good nested r.1 n x r.0 root.0 r.2 root.1 (all_stand (λ c. depth (whole meta m c) ≤ n) (child_ids m Root) deep r.0 (child_stands m r.0 Root r.3)))
+        (covered meta m good nested r.1 n x r.0 root.0 r.2 root.1
+        (all_stand (λ c. depth (whole meta m c) ≤ n) (child_ids m Root) deep r.0 (child_stands m r.0 Root r.3)))

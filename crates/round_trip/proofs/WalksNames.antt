@@ -39,7 +39,8 @@ module _ {A B : Type 0} (g : A → List B) where
   all_flat P (a ∷ rest) all = all_append P (g a) (flat g rest) all.0 (all_flat P rest all.1)
 
   module _ (P : B → B → Type 0) (R : A → A → Type 0) (Q : A → B → Type 0) (cross : (a b : A) → R a b → (x y : B) → Q a x → Q b y → P x y) where
-    apart_from_one : (a : A) (x : B) → Q a x → (bs : List A) → AllByRecursion (R a) bs → AllByRecursion (λ b. AllByRecursion (Q b) (g b)) bs → AllByRecursion (P x) (flat g bs)
+    apart_from_one : (a : A) (x : B) → Q a x → (bs : List A) → AllByRecursion (R a) bs → AllByRecursion (λ b. AllByRecursion (Q b) (g b)) bs
+        → AllByRecursion (P x) (flat g bs)
     apart_from_one a x q [] r all = tt
     apart_from_one a x q (b ∷ bs) r all = all_append (P x) (g b) (flat g bs) (each (g b) all.0) (apart_from_one a x q bs r.1 all.1)
       where
@@ -47,12 +48,14 @@ module _ {A B : Type 0} (g : A → List B) where
         each [] h = tt
         each (y ∷ ys) h = (cross a b r.0 x y q h.0, each ys h.1)
 
-    apart_from_all : (a : A) (xs : List B) → AllByRecursion (Q a) xs → (bs : List A) → AllByRecursion (R a) bs → AllByRecursion (λ b. AllByRecursion (Q b) (g b)) bs → AllByRecursion (λ x. AllByRecursion (P x) (flat g bs)) xs
+    apart_from_all : (a : A) (xs : List B) → AllByRecursion (Q a) xs → (bs : List A) → AllByRecursion (R a) bs
+        → AllByRecursion (λ b. AllByRecursion (Q b) (g b)) bs → AllByRecursion (λ x. AllByRecursion (P x) (flat g bs)) xs
     apart_from_all a [] q bs r all = tt
     apart_from_all a (x ∷ xs) q bs r all = (apart_from_one a x q.0 bs r all, apart_from_all a xs q.1 bs r all)
 
     -- lists that have nothing in common, and no item twice, make one that has none twice
-    pub pairs_flat : (rest : List A) → Pairs R rest → AllByRecursion (λ a. Pairs P (g a)) rest → AllByRecursion (λ a. AllByRecursion (Q a) (g a)) rest → Pairs P (flat g rest)
+    pub pairs_flat : (rest : List A) → Pairs R rest → AllByRecursion (λ a. Pairs P (g a)) rest → AllByRecursion (λ a. AllByRecursion (Q a) (g a)) rest
+        → Pairs P (flat g rest)
     pairs_flat [] r p q = tt
     pairs_flat (a ∷ rest) r p q = pairs_append P (g a) (flat g rest) p.0 (pairs_flat rest r.1 p.1 q.1) (apart_from_all a (g a) q.0 rest r.0 q.1)
 
@@ -90,14 +93,16 @@ some x = Some x
 abbrev Names : (ℕ → Option DocParent → IdBytes → List Draft) → (IdBytes → List IdBytes) → Type 0
 Names rows names = (k : ℕ) (parent : Option DocParent) (e : IdBytes) → ids_of (rows k parent e) ≡ map some (names e)
 
-pub forest_names : (rows : ℕ → Option DocParent → IdBytes → List Draft) (names : IdBytes → List IdBytes) → Names rows names → (k : ℕ) (parent : Option DocParent) (cs : List IdBytes) → ids_of (forest rows k parent cs) ≡ map some (flat names cs)
+pub forest_names : (rows : ℕ → Option DocParent → IdBytes → List Draft) (names : IdBytes → List IdBytes) → Names rows names
+    → (k : ℕ) (parent : Option DocParent) (cs : List IdBytes) → ids_of (forest rows k parent cs) ≡ map some (flat names cs)
 forest_names rows names h k parent [] = refl
 forest_names rows names h k parent (c ∷ cs) =
     ids_append (rows k parent c) (forest rows (k + length (rows k parent c)) parent cs)
     ∙ ap₂ (λ xs ys. xs ++ ys) (h k parent c) (forest_names rows names h (k + length (rows k parent c)) parent cs)
     ∙ sym (map-append some (names c) (flat names cs))
 
-module _ (meta : Meta) (m : State) (rows : ℕ → Option DocParent → IdBytes → List Draft) (names : IdBytes → List IdBytes) (h : Names rows names) (own : ℕ) (e : IdBytes) where
+module _ (meta : Meta) (m : State) (rows : ℕ → Option DocParent → IdBytes → List Draft) (names : IdBytes → List IdBytes) (h : Names rows names)
+    (own : ℕ) (e : IdBytes) where
   kind_named : (f k : ℕ) (kind : Kind) → ids_of (kind_rows m e f rows own k kind) ≡ map some (kind_names m names e f kind)
   kind_named f k (Attr scalar default) = refl
   kind_named f k (AttrMany scalar unique) = refl
@@ -107,7 +112,8 @@ module _ (meta : Meta) (m : State) (rows : ℕ → Option DocParent → IdBytes 
   kind_named f k (Container target opposite) = refl
   kind_named f k Skip = refl
 
-  by_number_named : (k n : ℕ) → ids_of (by_number (λ f. kind_rows m e f rows own k (kind_of meta f)) n) ≡ map some (by_number (λ f. kind_names m names e f (kind_of meta f)) n)
+  by_number_named : (k n : ℕ)
+      → ids_of (by_number (λ f. kind_rows m e f rows own k (kind_of meta f)) n) ≡ map some (by_number (λ f. kind_names m names e f (kind_of meta f)) n)
   by_number_named k zero = refl
   by_number_named k (suc zero) = refl
   by_number_named k (suc (suc f)) = kind_named f k (kind_of meta f)
@@ -124,4 +130,5 @@ module _ (meta : Meta) (m : State) where
   pub tree_named : (n : ℕ) → Names (tree_rows meta m n) (tree_names meta m n)
   unfolding tree_rows tree_names
   tree_named zero k parent e = refl
-  tree_named (suc n) k parent e = ap (λ xs. Some e ∷ xs) (keys_named meta m (tree_rows meta m n) (tree_names meta m n) (tree_named n) k e (suc k) (keys_of meta (class_at meta m e)))
+  tree_named (suc n) k parent e =
+      ap (λ xs. Some e ∷ xs) (keys_named meta m (tree_rows meta m n) (tree_names meta m n) (tree_named n) k e (suc k) (keys_of meta (class_at meta m e)))

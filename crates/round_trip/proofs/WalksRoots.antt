@@ -29,7 +29,8 @@ module _ (meta : Meta) (below : ℕ → Option DocParent → IdBytes → List Dr
   walked_object : (d : Data) → IsObject d → walked meta d ≡ element_rows meta [] None None d
   walked_object d o = subst (λ x. walked meta x ≡ element_rows meta [] None None x) (sym o.1) refl
 
-  list_walked : (cs : List IdBytes) → AllByRecursion (Walked meta below shown None None) cs → Come [] (ids_of (forest below 0 None cs)) → walked meta (one_or_list true (map shown cs)) ≡ Ok (forest below 0 None cs)
+  list_walked : (cs : List IdBytes) → AllByRecursion (Walked meta below shown None None) cs → Come [] (ids_of (forest below 0 None cs))
+      → walked meta (one_or_list true (map shown cs)) ≡ Ok (forest below 0 None cs)
   unfolding items_rows
   list_walked [] all come = refl
   list_walked (c ∷ []) all come =
@@ -52,6 +53,8 @@ module _ (meta : Meta) (promised : IsMetamodel meta) (m : State) (good : Good me
       let nested : IsNested meta m = text_is_whole meta m good in
       list_walked meta (tree_rows meta m n) (whole meta m) (objects meta promised m good forms nested) (child_ids m Root)
       (all_both (λ c. get m.place c ≡ Some Root) (λ c. depth (whole meta m c) ≤ n) (Walked meta (tree_rows meta m n) (whole meta m) None None)
-      (λ c at deep. let p = placed meta m.kind (get m.kind c) (get m.place c) Root (get m.prank c) (good.places.stands c) at in walk meta promised m good forms nested n None None c p.0 p.1 refl deep)
-      (child_ids m Root) (each_child m Root) (listed_depths (whole meta m) n true (child_ids m Root) (one_or_list_within n (map (whole meta m) (child_ids m Root)) (omega arith))))
+      (λ c at deep. let p = placed meta m.kind (get m.kind c) (get m.place c) Root (get m.prank c) (good.places.stands c) at
+      in walk meta promised m good forms nested n None None c p.0 p.1 refl deep)
+      (child_ids m Root) (each_child m Root)
+      (listed_depths (whole meta m) n true (child_ids m Root) (one_or_list_within n (map (whole meta m) (child_ids m Root)) (omega arith))))
       (rows_come meta promised.named m good n)

@@ -23,7 +23,8 @@ rows_ok : (xs ys : List Draft) → ◌≡◌ {A = Read (List Draft)} (Ok xs) (Ok
 rows_ok xs ys h = cc
 
 -- the text of a member is as long as its value's and that of the rest
-member_length : (later : Bool) (k : List ℕ) (d : Data) (ms : Members) → length (compact_text d) + length (members_text true ms) ≤ length (members_text later (member k d ms))
+member_length : (later : Bool) (k : List ℕ) (d : Data) (ms : Members)
+    → length (compact_text d) + length (members_text true ms) ≤ length (members_text later (member k d ms))
 member_length later k d ms =
     let a = length-append (comma_if later) (quoted k ++ 58 ∷ (compact_text d ++ members_text true ms)) in
     let b = length-append (quoted k) (58 ∷ (compact_text d ++ members_text true ms)) in
@@ -55,7 +56,8 @@ nothing_more more n is = let e = ap length is in omega arith
 more_steps : (a b n c d t : ℕ) → a ≤ b + c → n ≤ a + d → c + d ≤ t → n ≤ b + t
 more_steps a b n c d t h g k = omega arith
 
-array_more : (ds : Items) (more : List Draft) → length more ≤ length {A = Draft} [] + length (items_text false ds) → length more ≤ length (compact_text (array ds))
+array_more : (ds : Items) (more : List Draft) → length more ≤ length {A = Draft} [] + length (items_text false ds)
+    → length more ≤ length (compact_text (array ds))
 array_more ds more h = omega arith
 
 module _ (meta : Meta) where
@@ -63,9 +65,11 @@ module _ (meta : Meta) where
       → ((c : ℕ) (below : Ids) (part : Part) → inside c below ≡ Ok part → length part.rows ≤ length {A = Draft} [] + length (members_text false ms))
       → (more : List Draft) → object_rows meta ids parent default ms inside ≡ Ok more → length more ≤ length (compact_text (object ms))
   object_short ids parent default ms inside short more h =
-      let class = then_ok (class_of meta default (get_member (codes "eClass") ms)) (λ c. «then» (id_of ids (get_member (codes "_id") ms)) (λ id. own_rows parent id c (inside c (ids ++ id ∷ [])))) more h in
+      let class = then_ok (class_of meta default (get_member (codes "eClass") ms))
+      (λ c. «then» (id_of ids (get_member (codes "_id") ms)) (λ id. own_rows parent id c (inside c (ids ++ id ∷ [])))) more h in
       let name = then_ok (id_of ids (get_member (codes "_id") ms)) (λ id. own_rows parent id class.0 (inside class.0 (ids ++ id ∷ []))) more class.2 in
-      let part = then_ok (inside class.0 (ids ++ name.0 ∷ [])) (λ (p : Part). Ok (record { id = name.0; class = class.0; parent = parent; attrs = p.attrs; links = p.links } ∷ p.rows)) more name.2 in
+      let part = then_ok (inside class.0 (ids ++ name.0 ∷ []))
+      (λ (p : Part). Ok (record { id = name.0; class = class.0; parent = parent; attrs = p.attrs; links = p.links } ∷ p.rows)) more name.2 in
       let own : Draft = record { id = name.0; class = class.0; parent = parent; attrs = part.0.attrs; links = part.0.links } in
       let is : suc (length part.0.rows) ≡ length more = ap length {x = own ∷ part.0.rows} (rows_ok (own ∷ part.0.rows) more part.2) in
       let l = short class.0 (ids ++ name.0 ∷ []) part.0 part.1 in
@@ -74,44 +78,56 @@ module _ (meta : Meta) where
   mutual
     unfolding element_rows items_rows members_rows held_rows
 
-    element_short : (ids : Ids) (parent : Option DocParent) (default : Option ℕ) (d : Data) (more : List Draft) → element_rows meta ids parent default d ≡ Ok more → length more ≤ length (compact_text d)
+    element_short : (ids : Ids) (parent : Option DocParent) (default : Option ℕ) (d : Data) (more : List Draft)
+        → element_rows meta ids parent default d ≡ Ok more → length more ≤ length (compact_text d)
     element_short ids parent default (object ms) more h =
-        object_short ids parent default ms (λ c below. members_rows meta c (length ids) below no_part ms) (λ c below part e. members_short c (length ids) below no_part false ms part e) more h
+        object_short ids parent default ms (λ c below. members_rows meta c (length ids) below no_part ms)
+        (λ c below part e. members_short c (length ids) below no_part false ms part e) more h
     element_short ids parent default null more h = cc
     element_short ids parent default (boolean b) more h = cc
     element_short ids parent default (number n) more h = cc
     element_short ids parent default (string s) more h = cc
     element_short ids parent default (array ds) more h = cc
 
-    items_short : (ids : Ids) (parent : Option DocParent) (default : Option ℕ) (rows : List Draft) (later : Bool) (ds : Items) (more : List Draft) → items_rows meta ids parent default rows ds ≡ Ok more → length more ≤ length rows + length (items_text later ds)
+    items_short : (ids : Ids) (parent : Option DocParent) (default : Option ℕ) (rows : List Draft) (later : Bool) (ds : Items) (more : List Draft)
+        → items_rows meta ids parent default rows ds ≡ Ok more → length more ≤ length rows + length (items_text later ds)
     items_short ids parent default rows later no_items more h = none_more later rows more (rows_ok rows more h)
     items_short ids parent default rows later (item d ds) more h =
         let one = then_ok (element_rows meta (ids ++ ids_of rows) parent default d) (λ more. items_rows meta ids parent default (rows ++ more) ds) more h in
-        more_steps (length (rows ++ one.0)) (length rows) (length more) (length (compact_text d)) (length (items_text true ds)) (length (items_text later (item d ds)))
+        more_steps (length (rows ++ one.0)) (length rows) (length more) (length (compact_text d)) (length (items_text true ds))
+        (length (items_text later (item d ds)))
         (grown_more rows one.0 (length (compact_text d)) (element_short (ids ++ ids_of rows) parent default d one.0 one.1))
         (items_short ids parent default (rows ++ one.0) true ds more one.2) (item_length later d ds)
 
-    members_short : (c own : ℕ) (ids : Ids) (part : Part) (later : Bool) (ms : Members) (more : Part) → members_rows meta c own ids part ms ≡ Ok more → length more.rows ≤ length part.rows + length (members_text later ms)
+    members_short : (c own : ℕ) (ids : Ids) (part : Part) (later : Bool) (ms : Members) (more : Part) → members_rows meta c own ids part ms ≡ Ok more
+        → length more.rows ≤ length part.rows + length (members_text later ms)
     members_short c own ids part later no_members more h = no_key_more later part more (of_ok part more h)
     members_short c own ids part later (member k d ms) more h =
         let held : ℕ → ℕ → Read (List Draft) = λ f target. held_rows meta (ids ++ ids_of part.rows) (record { row = own; feature = f }) target d in
         let one = then_ok (key_part meta (key_named meta c k) d held) (λ more. members_rows meta c own ids (joined part more) ms) more h in
-        more_steps (length (part.rows ++ one.0.rows)) (length part.rows) (length more.rows) (length (compact_text d)) (length (members_text true ms)) (length (members_text later (member k d ms)))
+        more_steps (length (part.rows ++ one.0.rows)) (length part.rows) (length more.rows) (length (compact_text d)) (length (members_text true ms))
+        (length (members_text later (member k d ms)))
         (elim (key_gives meta (key_named meta c k) d held one.0 one.1) [
           | inl none ↦ bare_more part.rows one.0.rows (length (compact_text d)) none
-          | inr some ↦ grown_more part.rows one.0.rows (length (compact_text d)) (held_short (ids ++ ids_of part.rows) (record { row = own; feature = some.0 }) some.1 d one.0.rows some.2)
+          | inr some ↦ grown_more part.rows one.0.rows (length (compact_text d))
+              (held_short (ids ++ ids_of part.rows) (record { row = own; feature = some.0 }) some.1 d one.0.rows some.2)
         ])
         (members_short c own ids (joined part one.0) true ms more one.2) (member_length later k d ms)
 
-    held_short : (ids : Ids) (parent : DocParent) (target : ℕ) (d : Data) (more : List Draft) → held_rows meta ids parent target d ≡ Ok more → length more ≤ length (compact_text d)
+    held_short : (ids : Ids) (parent : DocParent) (target : ℕ) (d : Data) (more : List Draft) → held_rows meta ids parent target d ≡ Ok more
+        → length more ≤ length (compact_text d)
     held_short ids parent target null more h = nothing_more more (length (compact_text null)) (rows_ok [] more h)
     held_short ids parent target (object ms) more h =
-        object_short ids (Some parent) (Some target) ms (λ c below. members_rows meta c (length ids) below no_part ms) (λ c below part e. members_short c (length ids) below no_part false ms part e) more
-        (unless_ok (is_within 1 (upper_of meta parent.feature)) Bound (object_rows meta ids (Some parent) (Some target) ms (λ c below. members_rows meta c (length ids) below no_part ms)) more h)
+        object_short ids (Some parent) (Some target) ms (λ c below. members_rows meta c (length ids) below no_part ms)
+        (λ c below part e. members_short c (length ids) below no_part false ms part e) more
+        (unless_ok (is_within 1 (upper_of meta parent.feature)) Bound
+        (object_rows meta ids (Some parent) (Some target) ms (λ c below. members_rows meta c (length ids) below no_part ms)) more h)
     held_short ids parent target (array ds) more h =
         array_more ds more (items_short ids (Some parent) (Some target) [] false ds more
         (unless_ok (is_within (length (list_of ds)) (upper_of meta parent.feature)) Bound (items_rows meta ids (Some parent) (Some target) [] ds) more
-        (unless_ok (not (is_one (upper_of meta parent.feature))) WrongType (unless (is_within (length (list_of ds)) (upper_of meta parent.feature)) Bound (items_rows meta ids (Some parent) (Some target) [] ds)) more h)))
+        (unless_ok (not (is_one (upper_of meta parent.feature))) WrongType
+        (unless (is_within (length (list_of ds)) (upper_of meta parent.feature)) Bound (items_rows meta ids (Some parent) (Some target) [] ds))
+        more h)))
     held_short ids parent target (boolean b) more h = cc
     held_short ids parent target (number n) more h = cc
     held_short ids parent target (string s) more h = cc

@@ -48,7 +48,8 @@ module _ (meta : Meta) (below : ℕ → Option DocParent → IdBytes → List Dr
   abbrev pub Walked : IdBytes → Type 0
   Walked c = (ids : Ids) → Come ids (ids_of (below (length ids) parent c)) → element_rows meta ids parent default (whole c) ≡ Ok (below (length ids) parent c)
 
-  pub items_walk : (ids : Ids) (cs : List IdBytes) (rows : List Draft) (k : ℕ) → k ≡ length (ids ++ ids_of rows) → AllByRecursion Walked cs → Come (ids ++ ids_of rows) (ids_of (forest below k parent cs))
+  pub items_walk : (ids : Ids) (cs : List IdBytes) (rows : List Draft) (k : ℕ) → k ≡ length (ids ++ ids_of rows) → AllByRecursion Walked cs
+      → Come (ids ++ ids_of rows) (ids_of (forest below k parent cs))
       → items_rows meta ids parent default rows (items_of (map whole cs)) ≡ Ok (rows ++ forest below k parent cs)
   unfolding items_rows
   items_walk ids [] rows k at all come = ap (λ rs. Ok rs) (sym (append-nil rows))
@@ -57,9 +58,11 @@ module _ (meta : Meta) (below : ℕ → Option DocParent → IdBytes → List Dr
       let rest = forest below (k + length here) parent cs in
       let parts = come_parts (ids ++ ids_of rows) here rest come in
       let first : element_rows meta (ids ++ ids_of rows) parent default (whole c) ≡ Ok here =
-      subst (λ n. Come (ids ++ ids_of rows) (ids_of (below n parent c)) → element_rows meta (ids ++ ids_of rows) parent default (whole c) ≡ Ok (below n parent c)) (sym at) (all.0 (ids ++ ids_of rows)) parts.0 in
+      subst (λ n. Come (ids ++ ids_of rows) (ids_of (below n parent c))
+      → element_rows meta (ids ++ ids_of rows) parent default (whole c) ≡ Ok (below n parent c)) (sym at) (all.0 (ids ++ ids_of rows)) parts.0 in
       ap (λ r. «then» r (λ more. items_rows meta ids parent default (rows ++ more) (items_of (map whole cs)))) first
-      ∙ items_walk ids cs (rows ++ here) (k + length here) (ap (λ n. n + length here) at ∙ counted ids rows here) all.1 (subst (λ zs. Come zs (ids_of rest)) (behind_rows ids rows here) parts.1)
+      ∙ items_walk ids cs (rows ++ here) (k + length here) (ap (λ n. n + length here) at ∙ counted ids rows here) all.1
+      (subst (λ zs. Come zs (ids_of rest)) (behind_rows ids rows here) parts.1)
       ∙ ap (λ rs. Ok rs) (append_assoc rows here rest)
 
 -- ---- the keys of an object
@@ -67,7 +70,8 @@ no_part_joined : (part : Part) → joined part no_part ≡ part
 no_part_joined part = λ i. record { attrs = append-nil part.attrs i; links = append-nil part.links i; rows = append-nil part.rows i }
 
 joined_assoc : (p q r : Part) → joined (joined p q) r ≡ joined p (joined q r)
-joined_assoc p q r = λ i. record { attrs = append_assoc p.attrs q.attrs r.attrs i; links = append_assoc p.links q.links r.links i; rows = append_assoc p.rows q.rows r.rows i }
+joined_assoc p q r = λ i.
+    record { attrs = append_assoc p.attrs q.attrs r.attrs i; links = append_assoc p.links q.links r.links i; rows = append_assoc p.rows q.rows r.rows i }
 
 module _ (meta : Meta) (m : State) (e : IdBytes) (below : ℕ → Option DocParent → IdBytes → List Draft) (own c : ℕ) (p : Key → Option Data) where
   -- what the value at a key gives
@@ -77,13 +81,15 @@ module _ (meta : Meta) (m : State) (e : IdBytes) (below : ℕ → Option DocPare
   -- what stands under a key gives what it is to give, after whatever ids have come
   abbrev pub KeyOk : Key → Option Data → Type 0
   KeyOk key None = (key_attrs meta m e key ≡ []) × (key_links meta m e key ≡ []) × ((k : ℕ) → key_rows meta m e below own k key ≡ [])
-  KeyOk key (Some d) = (ids : Ids) → Come ids (ids_of (key_rows meta m e below own (length ids) key)) → at_key ids (key_name meta key) d ≡ Ok (key_part_told meta m e below own (length ids) key)
+  KeyOk key (Some d) = (ids : Ids) → Come ids (ids_of (key_rows meta m e below own (length ids) key))
+      → at_key ids (key_name meta key) d ≡ Ok (key_part_told meta m e below own (length ids) key)
 
   none_told : (key : Key) (keys : List Key) (k : ℕ) → KeyOk key None → told meta m e below own k keys ≡ told meta m e below own k (key ∷ keys)
   none_told key keys k ok = λ i. record {
     attrs = ap (λ xs. xs ++ keys_attrs meta m e keys) (sym ok.0) i;
     links = ap (λ xs. xs ++ keys_links meta m e keys) (sym ok.1) i;
-    rows = (ap (λ (n : ℕ). keys_rows meta m e below own n keys) (none_more k (key_rows meta m e below own k key) (ok.2 k)) ∙ ap (λ xs. xs ++ keys_rows meta m e below own (k + length (key_rows meta m e below own k key)) keys) (sym (ok.2 k))) i;
+    rows = (ap (λ (n : ℕ). keys_rows meta m e below own n keys) (none_more k (key_rows meta m e below own k key) (ok.2 k))
+        ∙ ap (λ xs. xs ++ keys_rows meta m e below own (k + length (key_rows meta m e below own k key)) keys) (sym (ok.2 k))) i;
   }
     where
       none_more : (k : ℕ) (xs : List Draft) → xs ≡ [] → k ≡ k + length xs
@@ -97,7 +103,8 @@ module _ (meta : Meta) (m : State) (e : IdBytes) (below : ℕ → Option DocPare
 
   one_key : (ids : Ids) (key : Key) (keys : List Key) (o : Option Data) → KeyOk key o → Goes ids keys
       → (sofar : Part) (k : ℕ) → k ≡ length (ids ++ ids_of sofar.rows) → Come (ids ++ ids_of sofar.rows) (ids_of (keys_rows meta m e below own k (key ∷ keys)))
-      → members_rows meta c own ids sofar (with_member (key_name meta key) o (members (key_name meta) p keys)) ≡ Ok (joined sofar (told meta m e below own k (key ∷ keys)))
+      → members_rows meta c own ids sofar (with_member (key_name meta key) o (members (key_name meta) p keys)) ≡ Ok
+      (joined sofar (told meta m e below own k (key ∷ keys)))
   unfolding members_rows
   one_key ids key keys None ok goes sofar k at come =
       goes sofar k at (subst (λ (q : Part). Come (ids ++ ids_of sofar.rows) (ids_of q.rows)) (sym (none_told key keys k ok)) come)
@@ -107,7 +114,9 @@ module _ (meta : Meta) (m : State) (e : IdBytes) (below : ℕ → Option DocPare
       let rest = keys_rows meta m e below own (k + length here) keys in
       let parts = come_parts (ids ++ ids_of sofar.rows) here rest come in
       let first : at_key (ids ++ ids_of sofar.rows) (key_name meta key) d ≡ Ok (key_part_told meta m e below own k key) =
-      subst (λ n. Come (ids ++ ids_of sofar.rows) (ids_of (key_rows meta m e below own n key)) → at_key (ids ++ ids_of sofar.rows) (key_name meta key) d ≡ Ok (key_part_told meta m e below own n key)) (sym at) (ok (ids ++ ids_of sofar.rows)) parts.0 in
+      subst (λ n. Come (ids ++ ids_of sofar.rows) (ids_of (key_rows meta m e below own n key))
+      → at_key (ids ++ ids_of sofar.rows) (key_name meta key) d ≡ Ok (key_part_told meta m e below own n key)) (sym at)
+      (ok (ids ++ ids_of sofar.rows)) parts.0 in
       ap (λ r. «then» r (λ more. members_rows meta c own ids (joined sofar more) (members (key_name meta) p keys))) first
       ∙ goes (joined sofar (key_part_told meta m e below own k key)) (k + length here) (ap (λ n. n + length here) at ∙ counted ids sofar.rows here)
       (subst (λ zs. Come zs (ids_of rest)) (behind_rows ids sofar.rows here) parts.1)

@@ -25,7 +25,8 @@ values_given f attrs = first_values (attr_at f attrs)
 -- the rows that stand in a place, by their names, in order; the first row has the number n
 abbrev pub standing_in : List IdBytes → Place → ℕ → List DocRow → List IdBytes
 standing_in names p n [] = []
-standing_in names p n (r ∷ rest) = cond (place_eq (place_of names r.parent) p) (name_at names n ∷ standing_in names p (suc n) rest) (standing_in names p (suc n) rest)
+standing_in names p n (r ∷ rest) =
+    cond (place_eq (place_of names r.parent) p) (name_at names n ∷ standing_in names p (suc n) rest) (standing_in names p (suc n) rest)
 
 -- a row describes an element: its class, its place, its values and the targets of its references, in order
 pub record DescribesElement (m : State) (names : List IdBytes) (e : IdBytes) (r : DocRow) : Type 0 where

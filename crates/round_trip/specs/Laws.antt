@@ -22,7 +22,8 @@ use Rattle.edits.specs.Answers.{steps_in}
 
 -- what rows that describe a good model leave in the empty project has the text of that model
 abbrev pub DescriptionsAreShown : Type 0
-DescriptionsAreShown = (meta : Meta) → Sound meta → (m : State) → Good meta m → (names : List IdBytes) (rows : List DocRow) → DocumentFits meta rows → Describes m names rows → length rows < 2 ^ 32 - 1
+DescriptionsAreShown = (meta : Meta) → Sound meta → (m : State) → Good meta m → (names : List IdBytes) (rows : List DocRow) → DocumentFits meta rows
+    → Describes m names rows → length rows < 2 ^ 32 - 1
     → text meta (import_after nothing names rows) ≡ text meta m
 
 -- the text of a good model reads as its tree, where that nests no deeper than JSON is read

@@ -1,5 +1,6 @@
 -- Numbers in decimal with a colon between, as they are read.
-use Rattle.std.proofs.Common.{◌≡◌, ◌≢◌, ◌∙◌, ℕ, ◌<◌, ◌≤◌, ◌^◌, List, [], ◌∷◌, ◌++◌, Bool, true, false, ◌&&◌, ◌||◌, not, length, get_or, Option, Some, None, Result, Ok, Err, refl, sym, ap, subst, suc, arith, inl, inr}
+use Rattle.std.proofs.Common.{◌≡◌, ◌≢◌, ◌∙◌, ℕ, ◌<◌, ◌≤◌, ◌^◌, List, [], ◌∷◌, ◌++◌, Bool, true, false, ◌&&◌, ◌||◌, not, length, get_or, Option, Some}
+use Rattle.std.proofs.Common.{None, Result, Ok, Err, refl, sym, ap, subst, suc, arith, inl, inr}
 use Rattle.std.specs.Prelude.{MatchOption, IfNone, nat_lt, ◌==◌, slice_index}
 use Rattle.std.specs.Fmt.{decimal}
 use Rattle.std.specs.List.{list_all}
@@ -84,7 +85,8 @@ cut_between word r cut seed count are = split_after 58 word (decimal seed) (deci
 pub same_count : (word : List ℕ) (m n : ℕ) → word ≡ decimal m → word ≡ decimal n → m < 2 ^ 64 → n < 2 ^ 64 → m ≡ n
 same_count word m n first second small fits = decimal_injective m n small fits (sym first ∙ second)
 
-pub numbers_are : (word first second : List ℕ) (seed count : ℕ) → word ≡ first ++ (58 ∷ second) → first ≡ decimal seed → second ≡ decimal count → seed < 2 ^ 64 → 1 ≤ count → count ≤ most_rounds → AreNumbers word seed count
+pub numbers_are : (word first second : List ℕ) (seed count : ℕ) → word ≡ first ++ (58 ∷ second) → first ≡ decimal seed → second ≡ decimal count
+    → seed < 2 ^ 64 → 1 ≤ count → count ≤ most_rounds → AreNumbers word seed count
 numbers_are word first second seed count is left right fits least most = record {
   word_is = is ∙ ap (λ (l : List ℕ). l ++ (58 ∷ second)) left ∙ ap (λ (l : List ℕ). decimal seed ++ (58 ∷ l)) right;
   seed_fits = fits;
@@ -98,7 +100,8 @@ held None p = p
 held (Some x) p = tt
 
 -- a list that has no colon, a colon, and a list: both lists are known
-cut_same : (xs ys us vs : List ℕ) → ((i : ℕ) → i < length xs → get_or xs i 0 ≢ 58) → ((i : ℕ) → i < length ys → get_or ys i 0 ≢ 58) → (xs ++ 58 ∷ us) ≡ (ys ++ 58 ∷ vs) → (xs ≡ ys) × (us ≡ vs)
+cut_same : (xs ys us vs : List ℕ) → ((i : ℕ) → i < length xs → get_or xs i 0 ≢ 58) → ((i : ℕ) → i < length ys → get_or ys i 0 ≢ 58)
+    → (xs ++ 58 ∷ us) ≡ (ys ++ 58 ∷ vs) → (xs ≡ ys) × (us ≡ vs)
 cut_same [] [] us vs one two is = (refl, cc)
 cut_same [] (y ∷ ys) us vs one two is = let first : y ≡ 58 = cc in absurd (two 0 (omega arith) first)
 cut_same (x ∷ xs) [] us vs one two is = let first : x ≡ 58 = cc in absurd (one 0 (omega arith) first)
@@ -116,7 +119,8 @@ same_numbers word seed other count more one two =
     let most = two.most in
     let small : count < 2 ^ 64 = omega arith in
     let fits : more < 2 ^ 64 = omega arith in
-    let parts = cut_same (decimal seed) (decimal other) (decimal count) (decimal more) (no_colon seed first) (no_colon other second) (sym one.word_is ∙ two.word_is) in
+    let parts = cut_same (decimal seed) (decimal other) (decimal count) (decimal more) (no_colon seed first) (no_colon other second)
+    (sym one.word_is ∙ two.word_is) in
     (decimal_injective seed other first second parts.0, decimal_injective count more small fits parts.1)
 
 -- words ask for one thing at most

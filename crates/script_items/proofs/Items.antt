@@ -14,7 +14,8 @@ use Rattle.plain_repository.specs.Lines.{takes_block}
 use Rattle.script_items.specs.Items.{GotItem}
 
 -- a fault of the line ends the script
-pub fault_ends_it : (fault : LineFault) (place : ℕ) (unread : List ℕ) → IsFault fault (next_line_of place unread) → EndsScript fault (script_from takes_block place unread)
+pub fault_ends_it : (fault : LineFault) (place : ℕ) (unread : List ℕ) → IsFault fault (next_line_of place unread)
+    → EndsScript fault (script_from takes_block place unread)
 fault_ends_it (faults.LineTooLong at) place unread is = script_fault takes_block place unread (faults.LineTooLong at) is
 fault_ends_it (faults.BlockTooLong at) place unread is = script_fault takes_block place unread (faults.BlockTooLong at) is
 fault_ends_it (faults.NotText at) place unread is = script_fault takes_block place unread (faults.NotText at) is
@@ -37,13 +38,16 @@ module _ (place place' : ℕ) (unread unread' text line : List ℕ) (got : Got) 
 
   -- the line takes no block
   pub plain_item : takes_block line ≡ false → script_from takes_block place unread ≡ with_item line None (script_from takes_block place' unread')
-  plain_item plain = script_line takes_block place place' unread line next_is plain there ∙ ap (λ (u : List ℕ). with_item line None (script_from takes_block place' u)) (sym past.unread)
+  plain_item plain = script_line takes_block place place' unread line next_is plain there
+      ∙ ap (λ (u : List ℕ). with_item line None (script_from takes_block place' u)) (sym past.unread)
 
   -- the line takes a block
   pub block_item : takes_block line ≡ true → script_from takes_block place unread ≡ cut_block takes_block line place' place' (Ok []) (slice_split is_lf unread')
-  block_item takes = script_block takes_block place place' unread line next_is takes there ∙ ap (λ (u : List ℕ). cut_block takes_block line place' place' (Ok []) (slice_split is_lf u)) (sym past.unread)
+  block_item takes = script_block takes_block place place' unread line next_is takes there
+      ∙ ap (λ (u : List ℕ). cut_block takes_block line place' place' (Ok []) (slice_split is_lf u)) (sym past.unread)
 
 -- a call that failed by the fault got no item
-pub got_fault : (result : Result (Option Item) LineFault) (fault : LineFault) (whole rest : Script) → IsErr result → IsErrAnd result (λ e. e ≡ fault) → EndsScript fault whole → GotItem result whole rest
+pub got_fault : (result : Result (Option Item) LineFault) (fault : LineFault) (whole rest : Script) → IsErr result → IsErrAnd result (λ e. e ≡ fault)
+    → EndsScript fault whole → GotItem result whole rest
 got_fault (Ok item) fault whole rest is_err is ends = absurd cc
 got_fault (Err e) fault whole rest is_err is ends = subst (λ (f : LineFault). EndsScript f whole) (sym is) ends

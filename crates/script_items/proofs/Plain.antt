@@ -1,5 +1,6 @@
 -- The lines of the generated script are short, and begin with a letter.
-use Rattle.std.proofs.Common.{◌≡◌, ℕ, zero, suc, ◌%◌, ◌<◌, ◌≤◌, ◌^◌, List, [], ◌∷◌, ◌++◌, map, length, true, refl, ap, arith, length-append, nat_eq, ◌-◌, ◌||◌, Bool, false}
+use Rattle.std.proofs.Common.{◌≡◌, ℕ, zero, suc, ◌%◌, ◌<◌, ◌≤◌, ◌^◌, List, [], ◌∷◌, ◌++◌, map, length, true, refl, ap, arith, length-append, nat_eq}
+use Rattle.std.proofs.Common.{◌-◌, ◌||◌, Bool, false}
 use Rattle.std.specs.Prelude.{codes, All, Some, ◌==◌, if◌then◌else◌}
 use Rattle.std.specs.Fmt.{decimal}
 use Rattle.std.specs.List.{list_all}
@@ -12,7 +13,8 @@ use Rattle.script_items.proofs.Graphic.{is_graphic, joins, graphic_number}
 use Rattle.plain_repository.specs.Lines.{is_skipped}
 use Rattle.script_items.specs.Items.{IsAnswered}
 use Rattle.script_items.specs.Library.{library}
-use Rattle.script_items.specs.Generator.{without_block, opening, workspace_in, pages_in, create_text, title_text, pages_text, edits, exchange, round, rounds, generated}
+use Rattle.script_items.specs.Generator.{without_block, opening, workspace_in, pages_in, create_text, title_text, pages_text, edits, exchange, round}
+use Rattle.script_items.specs.Generator.{rounds, generated}
 
 -- the letters that the words of commands with a block begin with: of `evolve`, `init` and `import`, and `load`
 abbrev pub begins_block : ℕ → Bool
@@ -41,7 +43,8 @@ create_plain ws k small fits = record {
   low = omega arith;
   other = refl;
   short = simp length-append (omega (arith, short_number ws small, short_number k fits));
-  graphic = joins (codes "reate ") (decimal ws ++ (codes " Book lib books b" ++ decimal k)) refl (joins (decimal ws) (codes " Book lib books b" ++ decimal k) (graphic_number ws small)
+  graphic = joins (codes "reate ") (decimal ws ++ (codes " Book lib books b" ++ decimal k)) refl
+      (joins (decimal ws) (codes " Book lib books b" ++ decimal k) (graphic_number ws small)
       (joins (codes " Book lib books b") (decimal k) refl (graphic_number k fits)));
 }
 
@@ -73,11 +76,13 @@ pages_plain ws k pages small fits few = record {
   graphic = joins (codes "et ") (decimal ws ++ (codes " b" ++ (decimal k ++ (codes " pages " ++ decimal pages)))) refl
       (joins (decimal ws) (codes " b" ++ (decimal k ++ (codes " pages " ++ decimal pages))) (graphic_number ws small)
       (joins (codes " b") (decimal k ++ (codes " pages " ++ decimal pages)) refl
-      (joins (decimal k) (codes " pages " ++ decimal pages) (graphic_number k fits) (joins (codes " pages ") (decimal pages) refl (graphic_number pages few)))));
+      (joins (decimal k) (codes " pages " ++ decimal pages) (graphic_number k fits)
+      (joins (codes " pages ") (decimal pages) refl (graphic_number pages few)))));
 }
 
 -- a line of letters and a number
-numbered_plain : (first : ℕ) (word : List ℕ) (k : ℕ) → 97 ≤ first → first ≤ 122 → begins_block first ≡ false → length word ≤ 20 → list_all is_graphic word ≡ true → k < 2 ^ 64 → IsPlain (first ∷ (word ++ decimal k))
+numbered_plain : (first : ℕ) (word : List ℕ) (k : ℕ) → 97 ≤ first → first ≤ 122 → begins_block first ≡ false → length word ≤ 20
+    → list_all is_graphic word ≡ true → k < 2 ^ 64 → IsPlain (first ∷ (word ++ decimal k))
 numbered_plain first word k letter low other short graphic fits = record {
   first = first;
   rest = word ++ decimal k;
@@ -89,8 +94,10 @@ numbered_plain first word k letter low other short graphic fits = record {
   graphic = joins word (decimal k) graphic (graphic_number k fits);
 }
 
-pub letters_plain : (first : ℕ) (word : List ℕ) → 97 ≤ first → first ≤ 122 → begins_block first ≡ false → length word ≤ 200 → list_all is_graphic word ≡ true → IsPlain (first ∷ word)
-letters_plain first word letter low other short graphic = record { first = first; rest = word; line_is = refl; letter = letter; low = low; other = other; short = short; graphic = graphic }
+pub letters_plain : (first : ℕ) (word : List ℕ) → 97 ≤ first → first ≤ 122 → begins_block first ≡ false → length word ≤ 200
+    → list_all is_graphic word ≡ true → IsPlain (first ∷ word)
+letters_plain first word letter low other short graphic =
+    record { first = first; rest = word; line_is = refl; letter = letter; low = low; other = other; short = short; graphic = graphic }
 
 workspace_small : (seed k : ℕ) → workspace_in seed k < 2 ^ 64
 workspace_small seed k = omega arith
@@ -105,14 +112,17 @@ edits_plain : (seed k : ℕ) → k < 2 ^ 64 → All IsPlain (edits seed k)
 edits_plain seed k fits =
     let ws = workspace_small seed k in
     three_all (create_text (workspace_in seed k) k) (title_text (workspace_in seed k) k) (pages_text (workspace_in seed k) k (pages_in seed k))
-    (create_plain (workspace_in seed k) k ws fits) (title_plain (workspace_in seed k) k ws fits) (pages_plain (workspace_in seed k) k (pages_in seed k) ws fits (pages_small seed k))
+    (create_plain (workspace_in seed k) k ws fits) (title_plain (workspace_in seed k) k ws fits)
+    (pages_plain (workspace_in seed k) k (pages_in seed k) ws fits (pages_small seed k))
 
 exchange_plain : (k : ℕ) → k < 2 ^ 64 → All IsPlain (exchange k)
 exchange_plain k fits =
     let one = numbered_plain 99 (codes "ommit 1 round ") k (omega arith) (omega arith) refl (omega arith) refl fits in
     let two = numbered_plain 99 (codes "ommit 2 round ") k (omega arith) (omega arith) refl (omega arith) refl fits in
-    All-cons IsPlain (codes "update 1") ((codes "commit 1 round " ++ decimal k) ∷ codes "update 2" ∷ (codes "commit 2 round " ++ decimal k) ∷ []) (letters_plain 117 (codes "pdate 1") (omega arith) (omega arith) refl (omega arith) refl)
-    (three_all (codes "commit 1 round " ++ decimal k) (codes "update 2") (codes "commit 2 round " ++ decimal k) one (letters_plain 117 (codes "pdate 2") (omega arith) (omega arith) refl (omega arith) refl) two)
+    All-cons IsPlain (codes "update 1") ((codes "commit 1 round " ++ decimal k) ∷ codes "update 2" ∷ (codes "commit 2 round " ++ decimal k) ∷ [])
+    (letters_plain 117 (codes "pdate 1") (omega arith) (omega arith) refl (omega arith) refl)
+    (three_all (codes "commit 1 round " ++ decimal k) (codes "update 2") (codes "commit 2 round " ++ decimal k) one
+    (letters_plain 117 (codes "pdate 2") (omega arith) (omega arith) refl (omega arith) refl) two)
 
 round_plain : (seed k : ℕ) → k < 2 ^ 64 → All IsPlain (round seed k)
 round_plain seed k fits = All-append IsPlain (edits seed k) _ (edits_plain seed k fits) (last (nat_eq (k % 4) 0))
@@ -151,9 +161,13 @@ opening_answered =
     let three = letters_plain 99 (codes "ommit 1 start") (omega arith) (omega arith) refl (omega arith) refl in
     let four = letters_plain 117 (codes "pdate 2") (omega arith) (omega arith) refl (omega arith) refl in
     All-cons IsAnswered (record { line = codes "init"; block = Some library })
-    (without_block (codes "checkout trunk") ∷ without_block (codes "checkout trunk") ∷ without_block (codes "create 1 Library / lib") ∷ without_block (codes "commit 1 start") ∷ without_block (codes "update 2") ∷ []) start_answered
-    (more (codes "checkout trunk") (without_block (codes "checkout trunk") ∷ without_block (codes "create 1 Library / lib") ∷ without_block (codes "commit 1 start") ∷ without_block (codes "update 2") ∷ []) one
-    (more (codes "checkout trunk") (without_block (codes "create 1 Library / lib") ∷ without_block (codes "commit 1 start") ∷ without_block (codes "update 2") ∷ []) one
+    (without_block (codes "checkout trunk") ∷ without_block (codes "checkout trunk") ∷ without_block (codes "create 1 Library / lib") ∷ without_block
+    (codes "commit 1 start") ∷ without_block (codes "update 2") ∷ []) start_answered
+    (more (codes "checkout trunk")
+    (without_block (codes "checkout trunk") ∷ without_block (codes "create 1 Library / lib") ∷ without_block
+    (codes "commit 1 start") ∷ without_block (codes "update 2") ∷ []) one
+    (more (codes "checkout trunk")
+    (without_block (codes "create 1 Library / lib") ∷ without_block (codes "commit 1 start") ∷ without_block (codes "update 2") ∷ []) one
     (more (codes "create 1 Library / lib") (without_block (codes "commit 1 start") ∷ without_block (codes "update 2") ∷ []) two
     (more (codes "commit 1 start") (without_block (codes "update 2") ∷ []) three
     (more (codes "update 2") [] four (All-nil IsAnswered))))))

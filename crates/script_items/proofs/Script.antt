@@ -1,5 +1,7 @@
 -- The bytes of the generated script are a script of its items.
-use Rattle.std.proofs.Common.{◌≡◌, ℕ, zero, suc, ◌+◌, ◌*◌, ◌-◌, ◌%◌, nat_eq, ◌<◌, ◌≤◌, ◌^◌, List, [], ◌∷◌, ◌++◌, map, length, take, get_or, Bool, true, false, ◌&&◌, ◌||◌, not, nat_le, nat_lt, None, Some, Ok, refl, sym, ap, subst, ◌∙◌, arith, length-append, append_assoc, eq-eqb}
+use Rattle.std.proofs.Common.{◌≡◌, ℕ, zero, suc, ◌+◌, ◌*◌, ◌-◌, ◌%◌, nat_eq, ◌<◌, ◌≤◌, ◌^◌, List, [], ◌∷◌, ◌++◌, map, length, take, get_or, Bool}
+use Rattle.std.proofs.Common.{true, false, ◌&&◌, ◌||◌, not, nat_le, nat_lt, None, Some, Ok, refl, sym, ap, subst, ◌∙◌, arith, length-append}
+use Rattle.std.proofs.Common.{append_assoc, eq-eqb}
 use Rattle.std.specs.Prelude.{codes, slice_index, ◌==◌, All, if◌then◌else◌}
 use Rattle.std.specs.Cmp.Lexicographic.{pointwise}
 use Rattle.std.specs.List.{list_all, slice_split, after_first, position_or_len}
@@ -10,7 +12,8 @@ use Rattle.std.proofs.lemmas.Bool.Decides.{nat_tests}
 use Rattle.std.proofs.Math.Seq.{get_or-append_seam}
 use Rattle.std.proofs.lemmas.Str.{utf8_valid_len-IsUtf8, IsUtf8-from_ascii}
 use Rattle.std.proofs.lemmas.List.{append-nil, drop_all, take_at, get_or_append_left}
-use Rattle.host_port.specs.Cut.{Script, is_lf, raw_line, is_ended, next_line_of, line_of, line_bytes, line_text, text_at, script_from, with_item, cut_block, after_block, ends_block, block_line, is_dot}
+use Rattle.host_port.specs.Cut.{Script, is_lf, raw_line, is_ended, next_line_of, line_of, line_bytes, line_text, text_at, script_from, with_item}
+use Rattle.host_port.specs.Cut.{cut_block, after_block, ends_block, block_line, is_dot}
 use Rattle.host_port.specs.Limits.{line_limit, block_limit, input_limit}
 use Rattle.host_port.proofs.ScriptCuts.{first_at, raw_is, ended_is, after_is, line_within}
 use Rattle.host_port.proofs.ScriptItems.{script_line, cut_nothing, block_goes, block_ends}
@@ -42,7 +45,8 @@ cut_line l r all =
     record {
       raw = raw_is (length l) (l ++ 10 ∷ []) r (omega arith) at ∙ take_at l (10 ∷ []) (length l) refl;
       ended = ended_is (length l) true (l ++ 10 ∷ []) r (omega arith) (λ t. omega arith) (λ f. absurd cc) (λ f. absurd cc) at;
-      after = after_is (length l) true (l ++ 10 ∷ []) r (λ t. omega arith) (λ f. absurd cc) (λ f. absurd cc) at ∙ ap (λ (x : List ℕ). x ++ r) (drop_all (length l + 1) (l ++ 10 ∷ []) (omega arith));
+      after = after_is (length l) true (l ++ 10 ∷ []) r (λ t. omega arith) (λ f. absurd cc) (λ f. absurd cc) at
+          ∙ ap (λ (x : List ℕ). x ++ r) (drop_all (length l + 1) (l ++ 10 ∷ []) (omega arith));
     }
 
 same_if : {A : Type 0} (b : Bool) (x y : A) → b ≡ false → (if b then x else y) ≡ y
@@ -58,14 +62,18 @@ whole_text place l all =
     let test : (utf8_valid_len l == length l) ≡ true = eq-eqb (utf8_valid_len l) (length l) valid in
     rw test refl
 
-line_read : (place : ℕ) (l r : List ℕ) → list_all is_graphic l ≡ true → length l ≤ line_limit → place + length l < input_limit → next_line_of place ((l ++ 10 ∷ []) ++ r) ≡ Ok (Some l)
+line_read : (place : ℕ) (l r : List ℕ) → list_all is_graphic l ≡ true → length l ≤ line_limit → place + length l < input_limit
+    → next_line_of place ((l ++ 10 ∷ []) ++ r) ≡ Ok (Some l)
 line_read place l r all short within =
     let cut = cut_line l r all in
-    ap (λ (x : List ℕ). line_of place x (is_ended ((l ++ 10 ∷ []) ++ r))) cut.raw ∙ ap (λ (b : Bool). line_of place l b) cut.ended ∙ line_within place l true short within
-    ∙ ap (λ (x : List ℕ). line_text (text_at place x)) (same_if (slice_index l (length l - 1) == 13) (take (length l - 1) l) l (no_return l all)) ∙ ap line_text (whole_text place l all)
+    ap (λ (x : List ℕ). line_of place x (is_ended ((l ++ 10 ∷ []) ++ r))) cut.raw ∙ ap (λ (b : Bool). line_of place l b) cut.ended
+    ∙ line_within place l true short within
+    ∙ ap (λ (x : List ℕ). line_text (text_at place x)) (same_if (slice_index l (length l - 1) == 13) (take (length l - 1) l) l (no_return l all))
+    ∙ ap line_text (whole_text place l all)
 
 -- a line that takes no block
-plain_item : (takes : List ℕ → Bool) (place : ℕ) (l r : List ℕ) → list_all is_graphic l ≡ true → length l ≤ line_limit → place + length l < input_limit → takes l ≡ false
+plain_item : (takes : List ℕ → Bool) (place : ℕ) (l r : List ℕ) → list_all is_graphic l ≡ true → length l ≤ line_limit
+    → place + length l < input_limit → takes l ≡ false
     → script_from takes place ((l ++ 10 ∷ []) ++ r) ≡ with_item l None (script_from takes (place + length l + 1) r)
 plain_item takes place l r all short within without_block =
     let cut = cut_line l r all in
@@ -97,16 +105,19 @@ and_false a b is = rw is refl
 goes_on : (place : ℕ) (l : List ℕ) → list_all is_graphic l ≡ true → is_dot l ≡ false → ends_block place true l ≡ false
 goes_on place l all other = and_false (is_dot (line_bytes true l)) (nat_lt (place + length l) input_limit) (ap is_dot (bytes_same l all) ∙ other)
 
-one_more : (start place : ℕ) (text l : List ℕ) → list_all is_graphic l ≡ true → start ≤ place → place + length l + 1 ≤ start + block_limit → place + length l < input_limit
+one_more : (start place : ℕ) (text l : List ℕ) → list_all is_graphic l ≡ true → start ≤ place → place + length l + 1 ≤ start + block_limit
+    → place + length l < input_limit
     → block_line start place true (Ok text) l ≡ Ok (Ok ((text ++ l) ++ 10 ∷ []))
 one_more start place text l all low short within =
     let few : nat_lt block_limit (place + (length l + 1) - start) ≡ false = grind (arith, nat_tests) in
     let near : nat_le input_limit (place + length l) ≡ false = grind (arith, nat_tests) in
     rw (few, near, bytes_same l all, whole_text place l all) refl
 
-block_lines : (takes : List ℕ → Bool) (line : List ℕ) (ls : List (List ℕ)) (start place : ℕ) (text r : List ℕ) → list_all is_block_line ls ≡ true → start ≤ place
+block_lines : (takes : List ℕ → Bool) (line : List ℕ) (ls : List (List ℕ)) (start place : ℕ) (text r : List ℕ) → list_all is_block_line ls ≡ true
+    → start ≤ place
     → place + length (joined ls) + 2 ≤ start + block_limit → place + length (joined ls) + 2 < input_limit
-    → cut_block takes line start place (Ok text) (slice_split is_lf (joined ls ++ ((46 ∷ 10 ∷ []) ++ r))) ≡ after_block line (Ok (text ++ joined ls)) (script_from takes (place + length (joined ls) + 2) r)
+    → cut_block takes line start place (Ok text) (slice_split is_lf (joined ls ++ ((46 ∷ 10 ∷ []) ++ r))) ≡ after_block line (Ok (text ++ joined ls))
+    (script_from takes (place + length (joined ls) + 2) r)
 block_lines takes line [] start place text r all low short within =
     let cut = cut_line (46 ∷ []) r refl in
     let near : nat_lt (place + 1) input_limit ≡ true = grind (arith, nat_tests) in
@@ -128,7 +139,8 @@ block_lines takes line (l ∷ ls) start place text r all low short within =
     let behind = ap length cut.after in
     let same : (place + length l + 1) + length (joined ls) + 2 ≡ place + length ((l ++ 10 ∷ []) ++ joined ls) + 2 = omega arith in
     ap (λ (u : List ℕ). cut_block takes line start place (Ok text) (slice_split is_lf u)) (append_assoc (l ++ 10 ∷ []) (joined ls) ((46 ∷ 10 ∷ []) ++ r))
-    ∙ block_goes takes line start place (place + length l + 1) (Ok text) (Ok ((text ++ l) ++ 10 ∷ [])) ((l ++ 10 ∷ []) ++ (joined ls ++ ((46 ∷ 10 ∷ []) ++ r))) cut.ended
+    ∙ block_goes takes line start place (place + length l + 1) (Ok text) (Ok ((text ++ l) ++ 10 ∷ []))
+    ((l ++ 10 ∷ []) ++ (joined ls ++ ((46 ∷ 10 ∷ []) ++ r))) cut.ended
     (ap (λ (x : List ℕ). ends_block place true x) cut.raw ∙ goes_on place l kinds.0 (not_true (is_dot l) kinds.1))
     (ap (λ (x : List ℕ). block_line start place true (Ok text) x) cut.raw ∙ one_more start place text l kinds.0 low (omega arith) (omega arith)) (omega arith)
     ∙ ap (λ (u : List ℕ). cut_block takes line start (place + length l + 1) (Ok ((text ++ l) ++ 10 ∷ [])) (slice_split is_lf u)) cut.after
@@ -137,16 +149,20 @@ block_lines takes line (l ∷ ls) start place text r all low short within =
     ∙ ap (λ (t : List ℕ). after_block line (Ok t) (script_from takes (place + length ((l ++ 10 ∷ []) ++ joined ls) + 2) r)) (simp append_assoc)
 
 -- a line that takes a block, and its block
-block_item : (takes : List ℕ → Bool) (place : ℕ) (l : List ℕ) (ls : List (List ℕ)) (r : List ℕ) → list_all is_graphic l ≡ true → length l ≤ line_limit → takes l ≡ true → list_all is_block_line ls ≡ true
+block_item : (takes : List ℕ → Bool) (place : ℕ) (l : List ℕ) (ls : List (List ℕ)) (r : List ℕ) → list_all is_graphic l ≡ true → length l ≤ line_limit
+    → takes l ≡ true → list_all is_block_line ls ≡ true
     → length (joined ls) + 2 ≤ block_limit → place + length l + 1 + length (joined ls) + 2 < input_limit
-    → script_from takes place ((l ++ 10 ∷ []) ++ ((joined ls ++ 46 ∷ 10 ∷ []) ++ r)) ≡ with_item l (Some (joined ls)) (script_from takes (place + length l + 1 + length (joined ls) + 2) r)
+    → script_from takes place ((l ++ 10 ∷ []) ++ ((joined ls ++ 46 ∷ 10 ∷ []) ++ r)) ≡ with_item l (Some (joined ls))
+    (script_from takes (place + length l + 1 + length (joined ls) + 2) r)
 block_item takes place l ls r all short blocked lines few within =
     let cut = cut_line l ((joined ls ++ 46 ∷ 10 ∷ []) ++ r) all in
     let size : length (l ++ 10 ∷ []) ≡ length l + 1 = length-append l (10 ∷ []) in
     let total = length-append (l ++ 10 ∷ []) ((joined ls ++ 46 ∷ 10 ∷ []) ++ r) in
     let behind = ap length cut.after in
-    script_block takes place (place + length l + 1) ((l ++ 10 ∷ []) ++ ((joined ls ++ 46 ∷ 10 ∷ []) ++ r)) l (line_read place l ((joined ls ++ 46 ∷ 10 ∷ []) ++ r) all short (omega arith)) blocked (omega arith)
-    ∙ ap (λ (u : List ℕ). cut_block takes l (place + length l + 1) (place + length l + 1) (Ok []) (slice_split is_lf u)) (cut.after ∙ append_assoc (joined ls) (46 ∷ 10 ∷ []) r)
+    script_block takes place (place + length l + 1) ((l ++ 10 ∷ []) ++ ((joined ls ++ 46 ∷ 10 ∷ []) ++ r)) l
+    (line_read place l ((joined ls ++ 46 ∷ 10 ∷ []) ++ r) all short (omega arith)) blocked (omega arith)
+    ∙ ap (λ (u : List ℕ). cut_block takes l (place + length l + 1) (place + length l + 1) (Ok []) (slice_split is_lf u))
+    (cut.after ∙ append_assoc (joined ls) (46 ∷ 10 ∷ []) r)
     ∙ block_lines takes l ls (place + length l + 1) (place + length l + 1) [] r lines (omega arith) (omega arith) (omega arith)
 
 whole_line : (l : List ℕ) → IsPlain l → list_all is_graphic l ≡ true
@@ -156,7 +172,8 @@ whole_line l p = subst (λ (x : List ℕ). list_all is_graphic x ≡ true) (sym 
     first_graphic first rest high low all = let here : is_graphic first ≡ true = grind (arith, nat_tests, high, low) in rw here all
 
 -- lines that take no block
-plain_lines : (takes : List ℕ → Bool) → ((l : List ℕ) → IsPlain l → takes l ≡ false) → (lines : List (List ℕ)) (place : ℕ) → All IsPlain lines → place + 202 * length lines < input_limit
+plain_lines : (takes : List ℕ → Bool) → ((l : List ℕ) → IsPlain l → takes l ≡ false) → (lines : List (List ℕ)) (place : ℕ) → All IsPlain lines
+    → place + 202 * length lines < input_limit
     → script_from takes place (script_bytes (map without_block lines)) ≡ record { items = map without_block lines; fault = None }
 plain_lines takes none [] place all near = cut_nothing takes place (omega arith)
 plain_lines takes none (l ∷ ls) place all near =
@@ -183,11 +200,13 @@ size_of_round seed k = by (nat_eq (k % 4) 0)
 
 size_of_rounds : (seed n : ℕ) → length (rounds seed n) ≤ 7 * n
 size_of_rounds seed zero = omega arith
-size_of_rounds seed (suc n) = let so_far = size_of_rounds seed n in omega (arith, length-append (rounds seed n) (round seed (suc n)), size_of_round seed (suc n))
+size_of_rounds seed (suc n) = let so_far = size_of_rounds seed n
+    in omega (arith, length-append (rounds seed n) (round seed (suc n)), size_of_round seed (suc n))
 
 -- the lines after the metamodel
 abbrev behind_it : ℕ → ℕ → List (List ℕ)
-behind_it seed count = codes "checkout trunk" ∷ codes "checkout trunk" ∷ codes "create 1 Library / lib" ∷ codes "commit 1 start" ∷ codes "update 2" ∷ rounds seed count
+behind_it seed count = codes "checkout trunk" ∷ codes "checkout trunk" ∷ codes "create 1 Library / lib" ∷ codes "commit 1 start" ∷ codes
+    "update 2" ∷ rounds seed count
 
 all_behind : (seed count : ℕ) → count < 2 ^ 64 → All IsPlain (behind_it seed count)
 all_behind seed count fits =
@@ -195,7 +214,8 @@ all_behind seed count fits =
     let two = letters_plain 99 (codes "reate 1 Library / lib") (omega arith) (omega arith) refl (omega arith) refl in
     let three = letters_plain 99 (codes "ommit 1 start") (omega arith) (omega arith) refl (omega arith) refl in
     let four = letters_plain 117 (codes "pdate 2") (omega arith) (omega arith) refl (omega arith) refl in
-    All-cons IsPlain (codes "checkout trunk") (codes "checkout trunk" ∷ codes "create 1 Library / lib" ∷ codes "commit 1 start" ∷ codes "update 2" ∷ rounds seed count) one
+    All-cons IsPlain (codes "checkout trunk")
+    (codes "checkout trunk" ∷ codes "create 1 Library / lib" ∷ codes "commit 1 start" ∷ codes "update 2" ∷ rounds seed count) one
     (All-cons IsPlain (codes "checkout trunk") (codes "create 1 Library / lib" ∷ codes "commit 1 start" ∷ codes "update 2" ∷ rounds seed count) one
     (All-cons IsPlain (codes "create 1 Library / lib") (codes "commit 1 start" ∷ codes "update 2" ∷ rounds seed count) two
     (All-cons IsPlain (codes "commit 1 start") (codes "update 2" ∷ rounds seed count) three
@@ -207,10 +227,13 @@ script_is : (takes : List ℕ → Bool) → takes (codes "init") ≡ true → ((
 script_is takes blocked none seed count most =
     let size : length (joined (take 19 (slice_split is_lf library))) ≤ most_rounds = omega (arith, ap length library_is, library_few) in
     let many = size_of_rounds seed count in
-    ap (λ (t : List ℕ). script_from takes 0 ((codes "init" ++ 10 ∷ []) ++ ((t ++ 46 ∷ 10 ∷ []) ++ script_bytes (map without_block (behind_it seed count))))) (sym library_is)
-    ∙ block_item takes 0 (codes "init") (take 19 (slice_split is_lf library)) (script_bytes (map without_block (behind_it seed count))) refl (omega arith) blocked library_shown (omega arith) (omega arith)
+    ap (λ (t : List ℕ). script_from takes 0
+    ((codes "init" ++ 10 ∷ []) ++ ((t ++ 46 ∷ 10 ∷ []) ++ script_bytes (map without_block (behind_it seed count))))) (sym library_is)
+    ∙ block_item takes 0 (codes "init") (take 19 (slice_split is_lf library)) (script_bytes (map without_block (behind_it seed count))) refl
+    (omega arith) blocked library_shown (omega arith) (omega arith)
     ∙ ap (λ (s : Script). with_item (codes "init") (Some (joined (take 19 (slice_split is_lf library)))) s)
-    (plain_lines takes none (behind_it seed count) (0 + length (codes "init") + 1 + length (joined (take 19 (slice_split is_lf library))) + 2) (all_behind seed count (omega arith)) (omega arith))
+    (plain_lines takes none (behind_it seed count) (0 + length (codes "init") + 1 + length (joined (take 19 (slice_split is_lf library))) + 2)
+    (all_behind seed count (omega arith)) (omega arith))
     ∙ ap (λ (t : List ℕ). with_item (codes "init") (Some t) (record { items = map without_block (behind_it seed count); fault = None })) library_is
 
 head_none : (n letter first : ℕ) (rest word : List ℕ) → nat_eq first letter ≡ false → pointwise nat_eq (take n (first ∷ rest)) (letter ∷ word) ≡ false
@@ -242,5 +265,6 @@ no_block : (l : List ℕ) → IsPlain l → takes_block l ≡ false
 no_block l p = subst (λ (x : List ℕ). takes_block x ≡ false) (sym p.line_is) (takes_none p.first p.rest p.other)
 
 -- the bytes of the script are a script of its items
-pub generated_script : (seed count : ℕ) → count ≤ most_rounds → script (script_bytes (generated seed count)) ≡ record { items = generated seed count; fault = None }
+pub generated_script : (seed count : ℕ) → count ≤ most_rounds
+    → script (script_bytes (generated seed count)) ≡ record { items = generated seed count; fault = None }
 generated_script seed count most = script_is takes_block begins no_block seed count most

@@ -25,7 +25,8 @@ not_slash : (word : List ℕ) → is_word word (codes "/") ≡ false → word �
 not_slash word other same = let e : is_word (codes "/") (codes "/") ≡ false = subst (λ w. is_word w (codes "/") ≡ false) same other in cc
 
 -- reading goes on after the words of a place
-pub destination_reads : {B : Type 0} (place : Destination) → IsDestination place → (words : List (List ℕ)) (column : ℕ) (f : Destination × Left → Result B ℕ) (y : B)
+pub destination_reads : {B : Type 0} (place : Destination) → IsDestination place
+    → (words : List (List ℕ)) (column : ℕ) (f : Destination × Left → Result B ℕ) (y : B)
     → ((past : ℕ) → f (place, record { rest = joined words; column = past }) ≡ Ok y)
     → (destination_at (record { rest = joined (destination_words place ++ words); column = column }) >>= f) ≡ Ok y
 unfolding destination_at
@@ -43,17 +44,21 @@ destination_reads (Inside parent feature) is words column f y on =
 abbrev pub Stands : Left → Destination → Left → Type 0
 Stands left place next = (words : List (List ℕ)) → next.rest ≡ joined words → left.rest ≡ joined (destination_words place ++ words)
 
-placed_as : (left : Left) (is place : Destination) (a next : Left) → IsDestination is → Stands left is a → ◌≡◌ {A = Result (Destination × Left) ℕ} (Ok (is, a)) (Ok (place, next))
+placed_as : (left : Left) (is place : Destination) (a next : Left) → IsDestination is → Stands left is a
+    → ◌≡◌ {A = Result (Destination × Left) ℕ} (Ok (is, a)) (Ok (place, next))
     → IsDestination place × Stands left place next
 placed_as left is place a next form stands e = subst (λ p. IsDestination p.0 × Stands left p.0 p.1) (ok_is (is, a) (place, next) e) (form, stands)
 
-first_told : (left : Left) (first : List ℕ) (a : Left) → IsWord first → Front left first a → (place : Destination) (next : Left) (b : Bool) → is_word first (codes "/") ≡ b
-    → cond {A = Result (Destination × Left) ℕ} b (Ok (Root, a)) (word_at a >>= λ feature. Ok (Inside first feature.0, feature.1)) ≡ Ok (place, next) → IsDestination place × Stands left place next
+first_told : (left : Left) (first : List ℕ) (a : Left) → IsWord first → Front left first a → (place : Destination) (next : Left) (b : Bool)
+    → is_word first (codes "/") ≡ b
+    → cond {A = Result (Destination × Left) ℕ} b (Ok (Root, a)) (word_at a >>= λ feature. Ok (Inside first feature.0, feature.1)) ≡ Ok (place, next)
+    → IsDestination place × Stands left place next
 first_told left first a is at_first place next true slash e =
     placed_as left Root place a next tt (λ words more. at_first words more ∙ ap (λ w. joined (w ∷ words)) (same_word first (codes "/") slash)) e
 first_told left first a is at_first place next false other e =
     tells word_kind a (λ feature. Ok (Inside first feature.0, feature.1)) (place, next) e (λ feature b is_feature at_feature e1.
-    placed_as left (Inside first feature) place b next (is, not_slash first other, is_feature) (λ words more. at_first (feature ∷ words) (at_feature words more)) e1)
+    placed_as left (Inside first feature) place b next (is, not_slash first other, is_feature)
+    (λ words more. at_first (feature ∷ words) (at_feature words more)) e1)
 
 destination_told : (left : Left) (place : Destination) (next : Left) → destination_at left ≡ Ok (place, next) → IsDestination place × Stands left place next
 unfolding destination_at

@@ -50,7 +50,8 @@ unset_spelled left command e =
     (at_ws (id ∷ feature ∷ []) (at_id (feature ∷ []) (at_feature [] end.0))) (λ l e. e) end.1)))
 
 pub add_read : (ws : ℕ) (id feature : List ℕ) (at : Option ℕ) (value : List ℕ) → IsCommand (commands.Edit ws (Add id feature at value)) → (column : ℕ)
-    → add_at (record { rest = joined (decimal ws ∷ id ∷ feature ∷ index_word at ∷ value ∷ []); column = column }) ≡ Ok (commands.Edit ws (Add id feature at value))
+    → add_at (record { rest = joined (decimal ws ∷ id ∷ feature ∷ index_word at ∷ value ∷ []); column = column }) ≡ Ok
+    (commands.Edit ws (Add id feature at value))
 unfolding add_at
 add_read ws id feature at value is column =
     reads (number_kind 1) ws is.0 (id ∷ feature ∷ index_word at ∷ value ∷ []) column _ _
@@ -67,8 +68,10 @@ add_spelled left command e =
     tells word_kind b _ command e2 (λ feature c is_feature at_feature e3.
     tells index_or_end_kind c _ command e3 (λ at d is_at at_at e4.
     text_tells d _ command e4 (λ value is_value at_value e5.
-    told_as (codes "add") left (commands.Edit ws (Add id feature at value)) command (decimal ws ∷ id ∷ feature ∷ index_word at ∷ value ∷ []) (is_ws, (is_id, is_feature, is_at, is_value))
-    (at_ws (id ∷ feature ∷ index_word at ∷ value ∷ []) (at_id (feature ∷ index_word at ∷ value ∷ []) (at_feature (index_word at ∷ value ∷ []) (at_at (value ∷ []) at_value)))) (λ l e. e) e5)))))
+    told_as (codes "add") left (commands.Edit ws (Add id feature at value)) command (decimal ws ∷ id ∷ feature ∷ index_word at ∷ value ∷ [])
+    (is_ws, (is_id, is_feature, is_at, is_value))
+    (at_ws (id ∷ feature ∷ index_word at ∷ value ∷ [])
+    (at_id (feature ∷ index_word at ∷ value ∷ []) (at_feature (index_word at ∷ value ∷ []) (at_at (value ∷ []) at_value)))) (λ l e. e) e5)))))
 
 pub remove_read : (ws : ℕ) (id feature : List ℕ) (index : ℕ) → IsCommand (commands.Edit ws (Remove id feature index)) → (column : ℕ)
     → remove_at (record { rest = joined (decimal ws ∷ id ∷ feature ∷ decimal index ∷ []); column = column }) ≡ Ok (commands.Edit ws (Remove id feature index))
@@ -88,11 +91,14 @@ remove_spelled left command e =
     tells word_kind b _ command e2 (λ feature c is_feature at_feature e3.
     tells index_kind c _ command e3 (λ index d is_index at_index e4.
     let end = end_tells d _ command e4 in
-    told_as (codes "remove") left (commands.Edit ws (Remove id feature index)) command (decimal ws ∷ id ∷ feature ∷ decimal index ∷ []) (is_ws, (is_id, is_feature, is_index))
-    (at_ws (id ∷ feature ∷ decimal index ∷ []) (at_id (feature ∷ decimal index ∷ []) (at_feature (decimal index ∷ []) (at_index [] end.0)))) (λ l e. e) end.1))))
+    told_as (codes "remove") left (commands.Edit ws (Remove id feature index)) command (decimal ws ∷ id ∷ feature ∷ decimal index ∷ [])
+    (is_ws, (is_id, is_feature, is_index))
+    (at_ws (id ∷ feature ∷ decimal index ∷ []) (at_id (feature ∷ decimal index ∷ []) (at_feature (decimal index ∷ []) (at_index [] end.0))))
+    (λ l e. e) end.1))))
 
 pub shift_read : (ws : ℕ) (id feature : List ℕ) (from to : ℕ) → IsCommand (commands.Edit ws (Shift id feature from to)) → (column : ℕ)
-    → shift_at (record { rest = joined (decimal ws ∷ id ∷ feature ∷ decimal from ∷ decimal to ∷ []); column = column }) ≡ Ok (commands.Edit ws (Shift id feature from to))
+    → shift_at (record { rest = joined (decimal ws ∷ id ∷ feature ∷ decimal from ∷ decimal to ∷ []); column = column }) ≡ Ok
+    (commands.Edit ws (Shift id feature from to))
 unfolding shift_at
 shift_read ws id feature from to is column =
     reads (number_kind 1) ws is.0 (id ∷ feature ∷ decimal from ∷ decimal to ∷ []) column _ _
@@ -111,5 +117,8 @@ shift_spelled left command e =
     tells index_kind c _ command e3 (λ from d is_from at_from e4.
     tells index_kind d _ command e4 (λ to e is_to at_to e5.
     let end = end_tells e _ command e5 in
-    told_as (codes "shift") left (commands.Edit ws (Shift id feature from to)) command (decimal ws ∷ id ∷ feature ∷ decimal from ∷ decimal to ∷ []) (is_ws, (is_id, is_feature, is_from, is_to))
-    (at_ws (id ∷ feature ∷ decimal from ∷ decimal to ∷ []) (at_id (feature ∷ decimal from ∷ decimal to ∷ []) (at_feature (decimal from ∷ decimal to ∷ []) (at_from (decimal to ∷ []) (at_to [] end.0))))) (λ l e. e) end.1)))))
+    told_as (codes "shift") left (commands.Edit ws (Shift id feature from to)) command (decimal ws ∷ id ∷ feature ∷ decimal from ∷ decimal to ∷ [])
+    (is_ws, (is_id, is_feature, is_from, is_to))
+    (at_ws (id ∷ feature ∷ decimal from ∷ decimal to ∷ [])
+    (at_id (feature ∷ decimal from ∷ decimal to ∷ []) (at_feature (decimal from ∷ decimal to ∷ []) (at_from (decimal to ∷ []) (at_to [] end.0)))))
+    (λ l e. e) end.1)))))

@@ -14,7 +14,8 @@ use Rattle.script_lang.proofs.FieldLemmas.{number_kind, end_tells, optional_in, 
 use Rattle.script_lang.proofs.Destinations.{destination_reads, destination_tells}
 
 pub create_read : (ws : ℕ) (class : List ℕ) (place : Destination) (id : Option (List ℕ)) → IsCommand (commands.Edit ws (Create class place id)) → (column : ℕ)
-    → create_at (record { rest = joined (decimal ws ∷ class ∷ (destination_words place ++ optional_word id)); column = column }) ≡ Ok (commands.Edit ws (Create class place id))
+    → create_at (record { rest = joined (decimal ws ∷ class ∷ (destination_words place ++ optional_word id)); column = column }) ≡ Ok
+    (commands.Edit ws (Create class place id))
 unfolding create_at
 create_read ws class place id is column =
     reads (number_kind 1) ws is.0 (class ∷ (destination_words place ++ optional_word id)) column _ _
@@ -31,8 +32,10 @@ create_spelled left command e =
     let o = reached (optional_at c) _ command e3 in
     let end = end_tells o.0.1 _ command o.2 in
     let t = optional_out c o.0.0 o.0.1 o.1 end.0 in
-    told_as (codes "create") left (commands.Edit ws (Create class place o.0.0)) command (decimal ws ∷ class ∷ (destination_words place ++ optional_word o.0.0)) (is_ws, (is_class, is_place, t.0))
-    (at_ws (class ∷ (destination_words place ++ optional_word o.0.0)) (at_class (destination_words place ++ optional_word o.0.0) (at_place (optional_word o.0.0) t.1))) (λ l e. e) end.1)))
+    told_as (codes "create") left (commands.Edit ws (Create class place o.0.0)) command
+    (decimal ws ∷ class ∷ (destination_words place ++ optional_word o.0.0)) (is_ws, (is_class, is_place, t.0))
+    (at_ws (class ∷ (destination_words place ++ optional_word o.0.0))
+    (at_class (destination_words place ++ optional_word o.0.0) (at_place (optional_word o.0.0) t.1))) (λ l e. e) end.1)))
 
 pub delete_read : (ws : ℕ) (id : List ℕ) → IsCommand (commands.Edit ws (Delete id)) → (column : ℕ)
     → delete_at (record { rest = joined (decimal ws ∷ id ∷ []); column = column }) ≡ Ok (commands.Edit ws (Delete id))
@@ -52,7 +55,8 @@ delete_spelled left command e =
     (at_ws (id ∷ []) (at_id [] end.0)) (λ l e. e) end.1))
 
 pub move_read : (ws : ℕ) (id : List ℕ) (place : Destination) (index : Option ℕ) → IsCommand (commands.Edit ws (Move id place index)) → (column : ℕ)
-    → move_at (record { rest = joined (decimal ws ∷ id ∷ (destination_words place ++ index_if_any index)); column = column }) ≡ Ok (commands.Edit ws (Move id place index))
+    → move_at (record { rest = joined (decimal ws ∷ id ∷ (destination_words place ++ index_if_any index)); column = column }) ≡ Ok
+    (commands.Edit ws (Move id place index))
 unfolding move_at
 move_read ws id place index is column =
     reads (number_kind 1) ws is.0 (id ∷ (destination_words place ++ index_if_any index)) column _ _
@@ -69,5 +73,7 @@ move_spelled left command e =
     let o = reached (optional_number_at c) _ command e3 in
     let end = end_tells o.0.1 _ command o.2 in
     let t = last_index_out c o.0.0 o.0.1 o.1 end.0 in
-    told_as (codes "move") left (commands.Edit ws (Move id place o.0.0)) command (decimal ws ∷ id ∷ (destination_words place ++ index_if_any o.0.0)) (is_ws, (is_id, is_place, t.0))
-    (at_ws (id ∷ (destination_words place ++ index_if_any o.0.0)) (at_id (destination_words place ++ index_if_any o.0.0) (at_place (index_if_any o.0.0) t.1))) (λ l e. e) end.1)))
+    told_as (codes "move") left (commands.Edit ws (Move id place o.0.0)) command (decimal ws ∷ id ∷ (destination_words place ++ index_if_any o.0.0))
+    (is_ws, (is_id, is_place, t.0))
+    (at_ws (id ∷ (destination_words place ++ index_if_any o.0.0))
+    (at_id (destination_words place ++ index_if_any o.0.0) (at_place (index_if_any o.0.0) t.1))) (λ l e. e) end.1)))

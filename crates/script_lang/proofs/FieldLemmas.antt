@@ -1,11 +1,14 @@
 -- Each kind of word: read where it stands first, and standing first where it was read.
-use Rattle.std.proofs.Common.{◌≡◌, ℕ, ◌+◌, ◌≤◌, ◌^◌, List, [], ◌∷◌, ◌++◌, length, refl, sym, ap, subst, ◌∙◌, true, false, Bool, cond, Option, None, Some, Result, Ok, arith, nat_eq, nat_le, codes}
+use Rattle.std.proofs.Common.{◌≡◌, ℕ, ◌+◌, ◌≤◌, ◌^◌, List, [], ◌∷◌, ◌++◌, length, refl, sym, ap, subst, ◌∙◌, true, false, Bool, cond, Option, None}
+use Rattle.std.proofs.Common.{Some, Result, Ok, arith, nat_eq, nat_le, codes}
 use Rattle.std.specs.Fmt.{decimal}
 use Rattle.std.proofs.lemmas.Bool.{leb-true, le-leb, eqb-true}
 use Rattle.std.proofs.lemmas.List.{append-nil}
 use Rattle.script_lang.specs.Left.{Left}
-use Rattle.script_lang.specs.Words.{◌>>=◌, is_word, word_at, number_of, number_at, not_below, optional_at, optional_number_at, rest_at, rest_from, optional_rest_at, optional_rest_from, index_or_end, index_from, index_or_end_at, number_below, moment_at, end_at}
-use Rattle.script_lang.specs.Spelling.{IsWord, IsNumber, IsMoment, IsText, IsOptionalText, IsOptionalNumber, IsOptionalWord, optional_word, index_word, index_if_any}
+use Rattle.script_lang.specs.Words.{◌>>=◌, is_word, word_at, number_of, number_at, not_below, optional_at, optional_number_at, rest_at, rest_from}
+use Rattle.script_lang.specs.Words.{optional_rest_at, optional_rest_from, index_or_end, index_from, index_or_end_at, number_below, moment_at, end_at}
+use Rattle.script_lang.specs.Spelling.{IsWord, IsNumber, IsMoment, IsText, IsOptionalText, IsOptionalNumber, IsOptionalWord, optional_word}
+use Rattle.script_lang.specs.Spelling.{index_word, index_if_any}
 use Rattle.script_lang.proofs.Numbers.{both, number_decimal, number_back, decimal_word}
 use Rattle.script_lang.proofs.WordLemmas.{behind, word_last, word_back}
 use Rattle.script_lang.proofs.Readings.{Kind, named_kind, joined, ok_is, some_is, reached}
@@ -33,7 +36,8 @@ number_only least word n e =
 
 pub number_kind : (least : ℕ) → Kind (number_at least) (IsFrom least) decimal
 unfolding number_at
-number_kind least = named_kind (λ word. not_below least (number_of word)) (IsFrom least) decimal (λ n is. decimal_word n (omega (arith, is.1))) (number_named least) (number_only least)
+number_kind least = named_kind (λ word. not_below least (number_of word)) (IsFrom least) decimal (λ n is. decimal_word n (omega (arith, is.1)))
+    (number_named least) (number_only least)
 
 pub index_kind : Kind (number_at 0) IsNumber decimal
 index_kind = record {
@@ -69,7 +73,8 @@ index_named : (at : Option ℕ) → IsOptionalNumber at → index_or_end (index_
 index_named None is = rw end_no_number refl
 index_named (Some n) is = rw (number_decimal (2 ^ 32) (omega arith) n is) refl
 
-end_only : (word : List ℕ) (at : Option ℕ) (b : Bool) → is_word word (codes "end") ≡ b → cond b (Some None) None ≡ Some at → IsOptionalNumber at × (word ≡ index_word at)
+end_only : (word : List ℕ) (at : Option ℕ) (b : Bool) → is_word word (codes "end") ≡ b → cond b (Some None) None ≡ Some at
+    → IsOptionalNumber at × (word ≡ index_word at)
 end_only word at true t e = let same = some_is None at e in (subst IsOptionalNumber same tt, same_word word (codes "end") t ∙ ap index_word same)
 end_only word at false t e = cc
 
@@ -120,7 +125,8 @@ text_tells left f y e on =
     on k.0 t.0 t.1 k.2
 
 -- a text up to the end of the line, where there is one
-pub optional_text_in : (text : Option (List ℕ)) → IsOptionalText text → (column : ℕ) → optional_rest_at (record { rest = joined (optional_word text); column = column }) ≡ Ok text
+pub optional_text_in : (text : Option (List ℕ)) → IsOptionalText text → (column : ℕ)
+    → optional_rest_at (record { rest = joined (optional_word text); column = column }) ≡ Ok text
 unfolding optional_rest_at
 optional_text_in None is column = refl
 optional_text_in (Some text) is column = rw (text_in text is column) refl

@@ -12,17 +12,29 @@ use Rattle.edits.specs.declared.edit.Edit.{Edit}
 use Rattle.edits.specs.declared.edit.Edit.TheVariants.{Create, Delete, Set, Unset, Add, Remove, Shift, Link, Unlink, Reorder, Move}
 use Rattle.script_lang.specs.Left.{Left}
 use Rattle.script_lang.specs.Words.{is_space, is_word, word_at}
-use Rattle.script_lang.specs.Command.{init_at, evolve_at, import_at, load_at, checkout_at, create_at, delete_at, move_at, set_at, unset_at, add_at, remove_at, shift_at, link_at, unlink_at, reorder_at, begin_at, end_line_at, undo_at, discard_at, tidy_at, apply_at, changes_at, show_at, cat_at, validate_at, commit_at, signed_at, branch_at, tag_at, log_at, package_at, update_at, merge_at, revert_at, drop_at, upgrade_at, chosen, feature_commands, work_commands, version_commands, command_of}
-use Rattle.script_lang.specs.Spelling.{IsWord, IsCommand, IsLineOf, CommandsHaveLines, LinesAreSpelled, edit_word, edit_fields, spec_word, optional_word, spaced, Spells}
+use Rattle.script_lang.specs.Command.{init_at, evolve_at, import_at, load_at, checkout_at, create_at, delete_at, move_at, set_at, unset_at, add_at}
+use Rattle.script_lang.specs.Command.{remove_at, shift_at, link_at, unlink_at, reorder_at, begin_at, end_line_at, undo_at, discard_at, tidy_at}
+use Rattle.script_lang.specs.Command.{apply_at, changes_at, show_at, cat_at, validate_at, commit_at, signed_at, branch_at, tag_at, log_at, package_at}
+use Rattle.script_lang.specs.Command.{update_at, merge_at, revert_at, drop_at, upgrade_at, chosen, feature_commands, work_commands, version_commands}
+use Rattle.script_lang.specs.Command.{command_of}
+use Rattle.script_lang.specs.Spelling.{IsWord, IsCommand, IsLineOf, CommandsHaveLines, LinesAreSpelled, edit_word, edit_fields, spec_word}
+use Rattle.script_lang.specs.Spelling.{optional_word, spaced, Spells}
 use Rattle.script_lang.proofs.WordLemmas.{word_back}
 use Rattle.script_lang.proofs.Readings.{reads, reached, word_kind, joined, spaced_joined, Tells}
 use Rattle.script_lang.proofs.FieldLemmas.{same_word}
 use Rattle.script_lang.proofs.ElementLines.{create_read, create_spelled, delete_read, delete_spelled, move_read, move_spelled}
-use Rattle.script_lang.proofs.EditLines.{set_read, set_spelled, unset_read, unset_spelled, add_read, add_spelled, remove_read, remove_spelled, shift_read, shift_spelled}
+use Rattle.script_lang.proofs.EditLines.{set_read, set_spelled, unset_read, unset_spelled, add_read, add_spelled, remove_read, remove_spelled}
+use Rattle.script_lang.proofs.EditLines.{shift_read, shift_spelled}
 use Rattle.script_lang.proofs.ReferenceLines.{link_read, link_spelled, unlink_read, unlink_spelled, reorder_read, reorder_spelled}
-use Rattle.script_lang.proofs.WorkspaceLines.{init_read, init_spelled, evolve_read, evolve_spelled, import_read, import_spelled, load_read, load_spelled, checkout_read, checkout_spelled, begin_read, begin_spelled, end_read, end_spelled, undo_read, undo_spelled, discard_read, discard_spelled, changes_read, changes_spelled, show_read, show_spelled, cat_read, cat_spelled, validate_read, validate_spelled}
-use Rattle.script_lang.proofs.MergingLines.{tidy_read, tidy_spelled, apply_read, apply_spelled, update_read, update_spelled, merge_read, merge_spelled, revert_read, revert_spelled}
-use Rattle.script_lang.proofs.VersionLines.{commit_read, commit_spelled, signed_read, signed_spelled, branch_read, branch_spelled, tag_read, tag_spelled, log_read, log_spelled, package_read, package_spelled, drop_read, drop_spelled, upgrade_read, upgrade_spelled}
+use Rattle.script_lang.proofs.WorkspaceLines.{init_read, init_spelled, evolve_read, evolve_spelled, import_read, import_spelled, load_read}
+use Rattle.script_lang.proofs.WorkspaceLines.{load_spelled, checkout_read, checkout_spelled, begin_read, begin_spelled, end_read, end_spelled}
+use Rattle.script_lang.proofs.WorkspaceLines.{undo_read, undo_spelled, discard_read, discard_spelled, changes_read, changes_spelled, show_read}
+use Rattle.script_lang.proofs.WorkspaceLines.{show_spelled, cat_read, cat_spelled, validate_read, validate_spelled}
+use Rattle.script_lang.proofs.MergingLines.{tidy_read, tidy_spelled, apply_read, apply_spelled, update_read, update_spelled, merge_read}
+use Rattle.script_lang.proofs.MergingLines.{merge_spelled, revert_read, revert_spelled}
+use Rattle.script_lang.proofs.VersionLines.{commit_read, commit_spelled, signed_read, signed_spelled, branch_read, branch_spelled, tag_read}
+use Rattle.script_lang.proofs.VersionLines.{tag_spelled, log_read, log_spelled, package_read, package_spelled, drop_read, drop_spelled, upgrade_read}
+use Rattle.script_lang.proofs.VersionLines.{upgrade_spelled}
 
 -- a line is what is left of it before its first word
 pub line_joined : (line first : List ℕ) (words : List (List ℕ)) → line ≡ spaced (first ∷ words) → Some line ≡ joined (first ∷ words)
@@ -32,11 +44,13 @@ edit_read : (line : List ℕ) (ws : ℕ) (edit : Edit) → IsCommand (commands.E
     → command_of line ≡ Ok (commands.Edit ws edit)
 unfolding command_of feature_commands work_commands version_commands
 edit_read line ws (Create class destination id) is words =
-    rw words (reads word_kind (codes "create") (omega arith, refl) (decimal ws ∷ edit_fields (Create class destination id)) 1 _ _ (create_read ws class destination id is))
+    rw words (reads word_kind (codes "create") (omega arith, refl) (decimal ws ∷ edit_fields (Create class destination id)) 1 _ _
+    (create_read ws class destination id is))
 edit_read line ws (Delete id) is words =
     rw words (reads word_kind (codes "delete") (omega arith, refl) (decimal ws ∷ edit_fields (Delete id)) 1 _ _ (delete_read ws id is))
 edit_read line ws (Move id destination index) is words =
-    rw words (reads word_kind (codes "move") (omega arith, refl) (decimal ws ∷ edit_fields (Move id destination index)) 1 _ _ (move_read ws id destination index is))
+    rw words (reads word_kind (codes "move") (omega arith, refl) (decimal ws ∷ edit_fields (Move id destination index)) 1 _ _
+    (move_read ws id destination index is))
 edit_read line ws (Set id feature value) is words =
     rw words (reads word_kind (codes "set") (omega arith, refl) (decimal ws ∷ edit_fields (Set id feature value)) 1 _ _ (set_read ws id feature value is))
 edit_read line ws (Unset id feature) is words =
@@ -44,59 +58,78 @@ edit_read line ws (Unset id feature) is words =
 edit_read line ws (Add id feature at value) is words =
     rw words (reads word_kind (codes "add") (omega arith, refl) (decimal ws ∷ edit_fields (Add id feature at value)) 1 _ _ (add_read ws id feature at value is))
 edit_read line ws (Remove id feature index) is words =
-    rw words (reads word_kind (codes "remove") (omega arith, refl) (decimal ws ∷ edit_fields (Remove id feature index)) 1 _ _ (remove_read ws id feature index is))
+    rw words (reads word_kind (codes "remove") (omega arith, refl) (decimal ws ∷ edit_fields (Remove id feature index)) 1 _ _
+    (remove_read ws id feature index is))
 edit_read line ws (Shift id feature from to) is words =
-    rw words (reads word_kind (codes "shift") (omega arith, refl) (decimal ws ∷ edit_fields (Shift id feature from to)) 1 _ _ (shift_read ws id feature from to is))
+    rw words (reads word_kind (codes "shift") (omega arith, refl) (decimal ws ∷ edit_fields (Shift id feature from to)) 1 _ _
+    (shift_read ws id feature from to is))
 edit_read line ws (Link id feature target index) is words =
-    rw words (reads word_kind (codes "link") (omega arith, refl) (decimal ws ∷ edit_fields (Link id feature target index)) 1 _ _ (link_read ws id feature target index is))
+    rw words (reads word_kind (codes "link") (omega arith, refl) (decimal ws ∷ edit_fields (Link id feature target index)) 1 _ _
+    (link_read ws id feature target index is))
 edit_read line ws (Unlink id feature target) is words =
-    rw words (reads word_kind (codes "unlink") (omega arith, refl) (decimal ws ∷ edit_fields (Unlink id feature target)) 1 _ _ (unlink_read ws id feature target is))
+    rw words (reads word_kind (codes "unlink") (omega arith, refl) (decimal ws ∷ edit_fields (Unlink id feature target)) 1 _ _
+    (unlink_read ws id feature target is))
 edit_read line ws (Reorder id feature target index) is words =
-    rw words (reads word_kind (codes "reorder") (omega arith, refl) (decimal ws ∷ edit_fields (Reorder id feature target index)) 1 _ _ (reorder_read ws id feature target index is))
+    rw words (reads word_kind (codes "reorder") (omega arith, refl) (decimal ws ∷ edit_fields (Reorder id feature target index)) 1 _ _
+    (reorder_read ws id feature target index is))
 
 -- a line that spells a command is read as that one
 pub line_read : (line : List ℕ) (command : Command) → Spells line command → command_of line ≡ Ok command
 unfolding command_of feature_commands work_commands version_commands
-line_read line commands.Init spells = rw (line_joined line (codes "init") [] spells.words) (reads word_kind (codes "init") (omega arith, refl) [] 1 _ _ init_read)
-line_read line commands.Evolve spells = rw (line_joined line (codes "evolve") [] spells.words) (reads word_kind (codes "evolve") (omega arith, refl) [] 1 _ _ evolve_read)
+line_read line commands.Init spells =
+    rw (line_joined line (codes "init") [] spells.words) (reads word_kind (codes "init") (omega arith, refl) [] 1 _ _ init_read)
+line_read line commands.Evolve spells =
+    rw (line_joined line (codes "evolve") [] spells.words) (reads word_kind (codes "evolve") (omega arith, refl) [] 1 _ _ evolve_read)
 line_read line (commands.Import ws) spells =
-    rw (line_joined line (codes "import") (decimal ws ∷ []) spells.words) (reads word_kind (codes "import") (omega arith, refl) (decimal ws ∷ []) 1 _ _ (import_read ws spells.form))
+    rw (line_joined line (codes "import") (decimal ws ∷ []) spells.words)
+    (reads word_kind (codes "import") (omega arith, refl) (decimal ws ∷ []) 1 _ _ (import_read ws spells.form))
 line_read line (commands.Load ws) spells =
-    rw (line_joined line (codes "load") (decimal ws ∷ []) spells.words) (reads word_kind (codes "load") (omega arith, refl) (decimal ws ∷ []) 1 _ _ (load_read ws spells.form))
+    rw (line_joined line (codes "load") (decimal ws ∷ []) spells.words)
+    (reads word_kind (codes "load") (omega arith, refl) (decimal ws ∷ []) 1 _ _ (load_read ws spells.form))
 line_read line (commands.Checkout spec) spells =
     rw (line_joined line (codes "checkout") (spec_word spec ∷ []) spells.words)
     (reads word_kind (codes "checkout") (omega arith, refl) (spec_word spec ∷ []) 1 _ _ (checkout_read spec spells.form))
-line_read line (commands.Edit ws edit) spells = edit_read line ws edit spells.form (line_joined line (edit_word edit) (decimal ws ∷ edit_fields edit) spells.words)
+line_read line (commands.Edit ws edit) spells =
+    edit_read line ws edit spells.form (line_joined line (edit_word edit) (decimal ws ∷ edit_fields edit) spells.words)
 line_read line (commands.Begin ws name) spells =
     rw (line_joined line (codes "begin") (decimal ws ∷ name ∷ []) spells.words)
     (reads word_kind (codes "begin") (omega arith, refl) (decimal ws ∷ name ∷ []) 1 _ _ (begin_read ws name spells.form))
 line_read line (commands.End ws) spells =
-    rw (line_joined line (codes "end") (decimal ws ∷ []) spells.words) (reads word_kind (codes "end") (omega arith, refl) (decimal ws ∷ []) 1 _ _ (end_read ws spells.form))
+    rw (line_joined line (codes "end") (decimal ws ∷ []) spells.words)
+    (reads word_kind (codes "end") (omega arith, refl) (decimal ws ∷ []) 1 _ _ (end_read ws spells.form))
 line_read line (commands.Undo ws) spells =
-    rw (line_joined line (codes "undo") (decimal ws ∷ []) spells.words) (reads word_kind (codes "undo") (omega arith, refl) (decimal ws ∷ []) 1 _ _ (undo_read ws spells.form))
+    rw (line_joined line (codes "undo") (decimal ws ∷ []) spells.words)
+    (reads word_kind (codes "undo") (omega arith, refl) (decimal ws ∷ []) 1 _ _ (undo_read ws spells.form))
 line_read line (commands.Discard ws) spells =
-    rw (line_joined line (codes "discard") (decimal ws ∷ []) spells.words) (reads word_kind (codes "discard") (omega arith, refl) (decimal ws ∷ []) 1 _ _ (discard_read ws spells.form))
+    rw (line_joined line (codes "discard") (decimal ws ∷ []) spells.words)
+    (reads word_kind (codes "discard") (omega arith, refl) (decimal ws ∷ []) 1 _ _ (discard_read ws spells.form))
 line_read line (commands.Tidy ws) spells =
-    rw (line_joined line (codes "tidy") (decimal ws ∷ []) spells.words) (reads word_kind (codes "tidy") (omega arith, refl) (decimal ws ∷ []) 1 _ _ (tidy_read ws spells.form))
+    rw (line_joined line (codes "tidy") (decimal ws ∷ []) spells.words)
+    (reads word_kind (codes "tidy") (omega arith, refl) (decimal ws ∷ []) 1 _ _ (tidy_read ws spells.form))
 line_read line (commands.Apply ws bytes) spells =
     let digits = spells.words.0 in
     rw (line_joined line (codes "apply") (decimal ws ∷ digits ∷ []) spells.words.3)
-    (reads word_kind (codes "apply") (omega arith, refl) (decimal ws ∷ digits ∷ []) 1 _ _ (apply_read ws digits bytes spells.form.0 spells.words.1 spells.words.2))
+    (reads word_kind (codes "apply") (omega arith, refl) (decimal ws ∷ digits ∷ []) 1 _ _
+    (apply_read ws digits bytes spells.form.0 spells.words.1 spells.words.2))
 line_read line (commands.Changes ws) spells =
-    rw (line_joined line (codes "changes") (decimal ws ∷ []) spells.words) (reads word_kind (codes "changes") (omega arith, refl) (decimal ws ∷ []) 1 _ _ (changes_read ws spells.form))
+    rw (line_joined line (codes "changes") (decimal ws ∷ []) spells.words)
+    (reads word_kind (codes "changes") (omega arith, refl) (decimal ws ∷ []) 1 _ _ (changes_read ws spells.form))
 line_read line (commands.Show ws) spells =
-    rw (line_joined line (codes "show") (decimal ws ∷ []) spells.words) (reads word_kind (codes "show") (omega arith, refl) (decimal ws ∷ []) 1 _ _ (show_read ws spells.form))
+    rw (line_joined line (codes "show") (decimal ws ∷ []) spells.words)
+    (reads word_kind (codes "show") (omega arith, refl) (decimal ws ∷ []) 1 _ _ (show_read ws spells.form))
 line_read line (commands.Cat spec) spells =
     rw (line_joined line (codes "cat") (spec_word spec ∷ []) spells.words)
     (reads word_kind (codes "cat") (omega arith, refl) (spec_word spec ∷ []) 1 _ _ (cat_read spec spells.form))
 line_read line (commands.Validate ws) spells =
-    rw (line_joined line (codes "validate") (decimal ws ∷ []) spells.words) (reads word_kind (codes "validate") (omega arith, refl) (decimal ws ∷ []) 1 _ _ (validate_read ws spells.form))
+    rw (line_joined line (codes "validate") (decimal ws ∷ []) spells.words)
+    (reads word_kind (codes "validate") (omega arith, refl) (decimal ws ∷ []) 1 _ _ (validate_read ws spells.form))
 line_read line (commands.Commit ws message) spells =
     rw (line_joined line (codes "commit") (decimal ws ∷ optional_word message) spells.words)
     (reads word_kind (codes "commit") (omega arith, refl) (decimal ws ∷ optional_word message) 1 _ _ (commit_read ws message spells.form))
 line_read line (commands.Signed ws author moment message) spells =
     rw (line_joined line (codes "signed") (decimal ws ∷ author ∷ decimal moment ∷ optional_word message) spells.words)
-    (reads word_kind (codes "signed") (omega arith, refl) (decimal ws ∷ author ∷ decimal moment ∷ optional_word message) 1 _ _ (signed_read ws author moment message spells.form))
+    (reads word_kind (codes "signed") (omega arith, refl) (decimal ws ∷ author ∷ decimal moment ∷ optional_word message) 1 _ _
+    (signed_read ws author moment message spells.form))
 line_read line (commands.Branch ws name) spells =
     rw (line_joined line (codes "branch") (decimal ws ∷ name ∷ []) spells.words)
     (reads word_kind (codes "branch") (omega arith, refl) (decimal ws ∷ name ∷ []) 1 _ _ (branch_read ws name spells.form))
@@ -117,8 +150,10 @@ line_read line (commands.Revert ws version) spells =
     rw (line_joined line (codes "revert") (decimal ws ∷ decimal version ∷ []) spells.words)
     (reads word_kind (codes "revert") (omega arith, refl) (decimal ws ∷ decimal version ∷ []) 1 _ _ (revert_read ws version spells.form))
 line_read line (commands.Drop ws) spells =
-    rw (line_joined line (codes "drop") (decimal ws ∷ []) spells.words) (reads word_kind (codes "drop") (omega arith, refl) (decimal ws ∷ []) 1 _ _ (drop_read ws spells.form))
-line_read line commands.Upgrade spells = rw (line_joined line (codes "upgrade") [] spells.words) (reads word_kind (codes "upgrade") (omega arith, refl) [] 1 _ _ upgrade_read)
+    rw (line_joined line (codes "drop") (decimal ws ∷ []) spells.words)
+    (reads word_kind (codes "drop") (omega arith, refl) (decimal ws ∷ []) 1 _ _ (drop_read ws spells.form))
+line_read line commands.Upgrade spells =
+    rw (line_joined line (codes "upgrade") [] spells.words) (reads word_kind (codes "upgrade") (omega arith, refl) [] 1 _ _ upgrade_read)
 
 -- a first word is the one that was looked for, or reading went on to the next
 chosen_or : (first word : List ℕ) (left : Left) (command : Command) (read next : Result Command ℕ) (b : Bool) → is_word first word ≡ b
@@ -139,10 +174,12 @@ abbrev plain : Row → List ℕ × (Left → Result Command ℕ)
 plain row = (row.word, row.read)
 
 -- what the first word chooses is spelled after it
-chosen_spelled : (rows : List Row) (first : List ℕ) (left : Left) (command : Command) → chosen (map plain rows) first left ≡ Ok command → Tells first left command
+chosen_spelled : (rows : List Row) (first : List ℕ) (left : Left) (command : Command) → chosen (map plain rows) first left ≡ Ok command
+    → Tells first left command
 chosen_spelled [] first left command e = cc
 chosen_spelled (row ∷ rows) first left command e =
-    chosen_or first row.word left command (row.read left) (chosen (map plain rows) first left) (is_word first row.word) refl (row.spelled left command) (chosen_spelled rows first left command) e
+    chosen_or first row.word left command (row.read left) (chosen (map plain rows) first left) (is_word first row.word) refl
+    (row.spelled left command) (chosen_spelled rows first left command) e
 
 abbrev all_rows : List Row
 all_rows =

@@ -15,7 +15,8 @@ use Rattle.script_lang.proofs.Readings.{reads, tells, reached, found, word_kind,
 use Rattle.script_lang.proofs.FieldLemmas.{number_kind, index_kind, end_tells, optional_in, optional_out}
 use Rattle.script_lang.proofs.SpecLemmas.{name_kind}
 
-pub tidy_read : (ws : ℕ) → IsCommand (commands.Tidy ws) → (column : ℕ) → tidy_at (record { rest = joined (decimal ws ∷ []); column = column }) ≡ Ok (commands.Tidy ws)
+pub tidy_read : (ws : ℕ) → IsCommand (commands.Tidy ws) → (column : ℕ)
+    → tidy_at (record { rest = joined (decimal ws ∷ []); column = column }) ≡ Ok (commands.Tidy ws)
 unfolding tidy_at
 tidy_read ws is column = reads (number_kind 1) ws is [] column _ _ (λ a. refl)
 
@@ -28,7 +29,8 @@ tidy_spelled left command e =
 
 -- a word of digits is read as its bytes
 bytes_in : {B : Type 0} (digits bytes : List ℕ) → IsWord digits → decode_of digits ≡ Ok bytes → (column : ℕ) (f : List ℕ × Left → Result B ℕ) (y : B)
-    → ((past : ℕ) → f (bytes, record { rest = joined []; column = past }) ≡ Ok y) → (bytes_at (record { rest = joined (digits ∷ []); column = column }) >>= f) ≡ Ok y
+    → ((past : ℕ) → f (bytes, record { rest = joined []; column = past }) ≡ Ok y)
+    → (bytes_at (record { rest = joined (digits ∷ []); column = column }) >>= f) ≡ Ok y
 unfolding bytes_at
 bytes_in digits bytes is decoded column f y on =
     let k = word_kind.read digits is (joined []) column in
@@ -85,7 +87,8 @@ update_spelled left command e =
     let o = reached (optional_at a) _ command e1 in
     let end = end_tells o.0.1 _ command o.2 in
     let t = optional_out a o.0.0 o.0.1 o.1 end.0 in
-    told_as (codes "update") left (commands.Update ws o.0.0) command (decimal ws ∷ optional_word o.0.0) (is_ws, t.0) (at_ws (optional_word o.0.0) t.1) (λ l e. e) end.1)
+    told_as (codes "update") left (commands.Update ws o.0.0) command (decimal ws ∷ optional_word o.0.0) (is_ws, t.0) (at_ws (optional_word o.0.0) t.1)
+    (λ l e. e) end.1)
 
 pub merge_read : (ws : ℕ) (branch : List ℕ) (choices : Option (List ℕ)) → IsCommand (commands.Merge ws branch choices) → (column : ℕ)
     → merge_at (record { rest = joined (decimal ws ∷ branch ∷ optional_word choices); column = column }) ≡ Ok (commands.Merge ws branch choices)

@@ -1,5 +1,6 @@
 -- Words that are numbers, and the words that numbers are written as.
-use Rattle.std.proofs.Common.{◌≡◌, ℕ, zero, suc, ◌<◌, ◌≤◌, ◌^◌, List, [], ◌∷◌, length, refl, sym, ap, ◌∙◌, true, false, Bool, ◌&&◌, ◌||◌, not, cond, None, Some, Result, Err, arith, get_or, nat_eq, nat_lt}
+use Rattle.std.proofs.Common.{◌≡◌, ℕ, zero, suc, ◌<◌, ◌≤◌, ◌^◌, List, [], ◌∷◌, length, refl, sym, ap, ◌∙◌, true, false, Bool, ◌&&◌, ◌||◌, not, cond}
+use Rattle.std.proofs.Common.{None, Some, Result, Err, arith, get_or, nat_eq, nat_lt}
 use Rattle.std.specs.List.{list_all, list_any}
 use Rattle.std.specs.Char.{is_ascii_digit}
 use Rattle.std.specs.Fmt.{decimal}
@@ -26,7 +27,8 @@ chosen false x y e = cc
 pub tells_digits : IsDigitsTest (λ ds. list_all is_ascii_digit ds ≡ true)
 tells_digits = record {
   empty = refl;
-  parts = λ c cs e. let k = both (is_ascii_digit c) (list_all is_ascii_digit cs) e in let m = both (leb 48 c) (leb c 57) k.0 in ((leb-true 48 c m.0, leb-true c 57 m.1), k.1);
+  parts = λ c cs e. let k = both (is_ascii_digit c) (list_all is_ascii_digit cs) e in let m = both (leb 48 c) (leb c 57) k.0
+      in ((leb-true 48 c m.0, leb-true c 57 m.1), k.1);
   more = λ c cs k e i. (le-leb 48 c k.0 i && le-leb c 57 k.1 i) && e i;
 }
 
@@ -58,7 +60,8 @@ unfolding number_below
 number_decimal limit short n small =
     let narrow : n < 2 ^ 64 = omega (arith, short, small) in
     let value = digits_value-decimal numerals n narrow in
-    let numeral : is_numeral (decimal n) ≡ true = all_three _ _ _ (le-leb 1 (length (decimal n)) (decimal_nonempty n narrow)) (no_needless_zero n narrow) (digits_decimal numerals n narrow) in
+    let numeral : is_numeral (decimal n) ≡ true =
+    all_three _ _ _ (le-leb 1 (length (decimal n)) (decimal_nonempty n narrow)) (no_needless_zero n narrow) (digits_decimal numerals n narrow) in
     let fits : nat_lt (digits_value 10 (decimal n)) limit ≡ true = le-leb (suc (digits_value 10 (decimal n))) limit (omega (arith, value, small)) in
     rw numeral (rw fits (ap Some value))
 
@@ -75,7 +78,8 @@ number_back limit short word n is =
     let below : digits_value 10 word < limit = leb-true (suc (digits_value 10 word)) limit t.1 in
     let digits = both (nat_lt 0 (length word) && (nat_eq (length word) 1 || not (nat_eq (get_or word 0 0) 48))) (list_all is_ascii_digit word) t.0 in
     let front = both (nat_lt 0 (length word)) (nat_eq (length word) 1 || not (nat_eq (get_or word 0 0) 48)) digits.0 in
-    let written = decimal-digits_value numerals word digits.1 (leb-true 1 (length word) front.0) (lone_zero (length word) (get_or word 0 0) front.1) (omega (arith, below, short)) in
+    let written = decimal-digits_value numerals word digits.1 (leb-true 1 (length word) front.0) (lone_zero (length word) (get_or word 0 0) front.1)
+    (omega (arith, below, short)) in
     (sym written ∙ ap decimal k.1, omega (arith, below, k.1))
 
 -- a numeral that std does not read is too large
@@ -84,7 +88,8 @@ pub too_large : {E : Type 0} (bits : ℕ) (word : List ℕ) (r : Result ℕ E) (
 unfolding number_below
 too_large bits word r e reads is numeral = by (nat_lt (digits_value 10 word) (2 ^ bits)) refl
   where
-    by : (b : Bool) → nat_lt (digits_value 10 word) (2 ^ bits) ≡ b → None ≡ cond (is_numeral word && nat_lt (digits_value 10 word) (2 ^ bits)) (Some (digits_value 10 word)) None
+    by : (b : Bool) → nat_lt (digits_value 10 word) (2 ^ bits) ≡ b
+        → None ≡ cond (is_numeral word && nat_lt (digits_value 10 word) (2 ^ bits)) (Some (digits_value 10 word)) None
     by true t =
         let digits = both (nat_lt 0 (length word) && (nat_eq (length word) 1 || not (nat_eq (get_or word 0 0) 48))) (list_all is_ascii_digit word) numeral in
         let front = both (nat_lt 0 (length word)) (nat_eq (length word) 1 || not (nat_eq (get_or word 0 0) 48)) digits.0 in

@@ -40,7 +40,8 @@ Front left word next = (words : List (List ℕ)) → next.rest ≡ joined words 
 module _ {X B : Type 0} {at : Left → Result (X × Left) ℕ} {Is : X → Type 0} {word : X → List ℕ} (kind : Kind at Is word) where
   -- reading goes on after a value's word
   pub reads : (x : X) → Is x → (words : List (List ℕ)) (column : ℕ) (f : X × Left → Result B ℕ) (y : B)
-      → ((past : ℕ) → f (x, record { rest = joined words; column = past }) ≡ Ok y) → (at (record { rest = joined (word x ∷ words); column = column }) >>= f) ≡ Ok y
+      → ((past : ℕ) → f (x, record { rest = joined words; column = past }) ≡ Ok y)
+      → (at (record { rest = joined (word x ∷ words); column = column }) >>= f) ≡ Ok y
   reads x is words column f y on = let k = kind.read x is (joined words) column in rw k.1 (on k.0)
 
   -- where reading went on, a value's word stands first
@@ -72,7 +73,8 @@ module _ {X : Type 0} (named : List ℕ → Option X) (Is : X → Type 0) (word 
     (is_word : (x : X) → Is x → IsWord (word x)) (names : (x : X) → Is x → named (word x) ≡ Some x)
     (only : (w : List ℕ) (x : X) → named w ≡ Some x → Is x × (w ≡ word x)) where
   named_read : (x : X) → Is x → (rest : Option (List ℕ)) (column : ℕ)
-      → (past : ℕ) × ((word_at (record { rest = Some (word x ++ behind rest); column = column }) >>= λ w. found_at column (named w.0) w.1) ≡ Ok (x, record { rest = rest; column = past }))
+      → (past : ℕ) × ((word_at (record { rest = Some (word x ++ behind rest); column = column }) >>= λ w. found_at column (named w.0) w.1) ≡ Ok
+      (x, record { rest = rest; column = past }))
   named_read x is rest column = (column + length (word x) + 1, rw (word_in (word x) (is_word x is) rest column) (rw (names x is) refl))
 
   named_told : (left : Left) (x : X) (next : Left) → (word_at left >>= λ w. found_at left.column (named w.0) w.1) ≡ Ok (x, next)

@@ -13,7 +13,8 @@ use Rattle.script_lang.proofs.Readings.{reads, tells, joined, reached, word_kind
 use Rattle.script_lang.proofs.FieldLemmas.{number_kind, index_kind, end_tells, last_index_in, last_index_out}
 
 pub link_read : (ws : ℕ) (id feature target : List ℕ) (index : Option ℕ) → IsCommand (commands.Edit ws (Link id feature target index)) → (column : ℕ)
-    → link_at (record { rest = joined (decimal ws ∷ id ∷ feature ∷ target ∷ index_if_any index); column = column }) ≡ Ok (commands.Edit ws (Link id feature target index))
+    → link_at (record { rest = joined (decimal ws ∷ id ∷ feature ∷ target ∷ index_if_any index); column = column }) ≡ Ok
+    (commands.Edit ws (Link id feature target index))
 unfolding link_at
 link_read ws id feature target index is column =
     reads (number_kind 1) ws is.0 (id ∷ feature ∷ target ∷ index_if_any index) column _ _
@@ -32,8 +33,11 @@ link_spelled left command e =
     let o = reached (optional_number_at d) _ command e4 in
     let end = end_tells o.0.1 _ command o.2 in
     let t = last_index_out d o.0.0 o.0.1 o.1 end.0 in
-    told_as (codes "link") left (commands.Edit ws (Link id feature target o.0.0)) command (decimal ws ∷ id ∷ feature ∷ target ∷ index_if_any o.0.0) (is_ws, (is_id, is_feature, is_target, t.0))
-    (at_ws (id ∷ feature ∷ target ∷ index_if_any o.0.0) (at_id (feature ∷ target ∷ index_if_any o.0.0) (at_feature (target ∷ index_if_any o.0.0) (at_target (index_if_any o.0.0) t.1)))) (λ l e. e) end.1))))
+    told_as (codes "link") left (commands.Edit ws (Link id feature target o.0.0)) command (decimal ws ∷ id ∷ feature ∷ target ∷ index_if_any o.0.0)
+    (is_ws, (is_id, is_feature, is_target, t.0))
+    (at_ws (id ∷ feature ∷ target ∷ index_if_any o.0.0)
+    (at_id (feature ∷ target ∷ index_if_any o.0.0) (at_feature (target ∷ index_if_any o.0.0) (at_target (index_if_any o.0.0) t.1))))
+    (λ l e. e) end.1))))
 
 pub unlink_read : (ws : ℕ) (id feature target : List ℕ) → IsCommand (commands.Edit ws (Unlink id feature target)) → (column : ℕ)
     → unlink_at (record { rest = joined (decimal ws ∷ id ∷ feature ∷ target ∷ []); column = column }) ≡ Ok (commands.Edit ws (Unlink id feature target))
@@ -53,11 +57,13 @@ unlink_spelled left command e =
     tells word_kind b _ command e2 (λ feature c is_feature at_feature e3.
     tells word_kind c _ command e3 (λ target d is_target at_target e4.
     let end = end_tells d _ command e4 in
-    told_as (codes "unlink") left (commands.Edit ws (Unlink id feature target)) command (decimal ws ∷ id ∷ feature ∷ target ∷ []) (is_ws, (is_id, is_feature, is_target))
+    told_as (codes "unlink") left (commands.Edit ws (Unlink id feature target)) command (decimal ws ∷ id ∷ feature ∷ target ∷ [])
+    (is_ws, (is_id, is_feature, is_target))
     (at_ws (id ∷ feature ∷ target ∷ []) (at_id (feature ∷ target ∷ []) (at_feature (target ∷ []) (at_target [] end.0)))) (λ l e. e) end.1))))
 
 pub reorder_read : (ws : ℕ) (id feature target : List ℕ) (index : ℕ) → IsCommand (commands.Edit ws (Reorder id feature target index)) → (column : ℕ)
-    → reorder_at (record { rest = joined (decimal ws ∷ id ∷ feature ∷ target ∷ decimal index ∷ []); column = column }) ≡ Ok (commands.Edit ws (Reorder id feature target index))
+    → reorder_at (record { rest = joined (decimal ws ∷ id ∷ feature ∷ target ∷ decimal index ∷ []); column = column }) ≡ Ok
+    (commands.Edit ws (Reorder id feature target index))
 unfolding reorder_at
 reorder_read ws id feature target index is column =
     reads (number_kind 1) ws is.0 (id ∷ feature ∷ target ∷ decimal index ∷ []) column _ _
@@ -76,5 +82,8 @@ reorder_spelled left command e =
     tells word_kind c _ command e3 (λ target d is_target at_target e4.
     tells index_kind d _ command e4 (λ index e is_index at_index e5.
     let end = end_tells e _ command e5 in
-    told_as (codes "reorder") left (commands.Edit ws (Reorder id feature target index)) command (decimal ws ∷ id ∷ feature ∷ target ∷ decimal index ∷ []) (is_ws, (is_id, is_feature, is_target, is_index))
-    (at_ws (id ∷ feature ∷ target ∷ decimal index ∷ []) (at_id (feature ∷ target ∷ decimal index ∷ []) (at_feature (target ∷ decimal index ∷ []) (at_target (decimal index ∷ []) (at_index [] end.0))))) (λ l e. e) end.1)))))
+    told_as (codes "reorder") left (commands.Edit ws (Reorder id feature target index)) command
+    (decimal ws ∷ id ∷ feature ∷ target ∷ decimal index ∷ []) (is_ws, (is_id, is_feature, is_target, is_index))
+    (at_ws (id ∷ feature ∷ target ∷ decimal index ∷ [])
+    (at_id (feature ∷ target ∷ decimal index ∷ [])
+    (at_feature (target ∷ decimal index ∷ []) (at_target (decimal index ∷ []) (at_index [] end.0))))) (λ l e. e) end.1)))))

@@ -1,5 +1,6 @@
 -- The words that name versions.
-use Rattle.std.proofs.Common.{◌≡◌, ℕ, ◌^◌, List, [], ◌∷◌, ap, subst, ◌∙◌, refl, true, false, Bool, ◌&&◌, cond, Option, None, Some, arith, nat_eq, nat_le, length}
+use Rattle.std.proofs.Common.{◌≡◌, ℕ, ◌^◌, List, [], ◌∷◌, ap, subst, ◌∙◌, refl, true, false, Bool, ◌&&◌, cond, Option, None, Some, arith, nat_eq}
+use Rattle.std.proofs.Common.{nat_le, length}
 use Rattle.std.specs.Char.{is_ascii_digit, is_ascii_alphabetic}
 use Rattle.std.specs.List.{list_all, list_any}
 use Rattle.std.proofs.lemmas.Bool.{eqb-true}
@@ -53,7 +54,8 @@ name_only word name false is e = cc
 
 pub name_kind : Kind name_at (λ name. is_name name ≡ true) (λ name. name)
 unfolding name_at
-name_kind = named_kind (λ word. cond (is_name word) (Some word) None) (λ name. is_name name ≡ true) (λ name. name) name_word name_named (λ word name e. name_only word name (is_name word) refl e)
+name_kind = named_kind (λ word. cond (is_name word) (Some word) None) (λ name. is_name name ≡ true) (λ name. name) name_word name_named
+    (λ word name e. name_only word name (is_name word) refl e)
 
 name_no_number : (name : List ℕ) → is_name name ≡ true → number_of name ≡ None
 name_no_number [] e = cc
@@ -85,7 +87,8 @@ tag_told (b ∷ bs) spec e =
     let t = both (nat_eq b 64) (is_name bs) k.0 in
     (subst IsSpec k.1 t.1, ap (λ c. c ∷ bs) (eqb-true b 64 t.0) ∙ ap spec_word k.1)
 
-name_told : (word : List ℕ) (spec : Spec) (b : Bool) → is_name word ≡ b → cond b (Some (Branch word)) (tag_of word) ≡ Some spec → IsSpec spec × (word ≡ spec_word spec)
+name_told : (word : List ℕ) (spec : Spec) (b : Bool) → is_name word ≡ b → cond b (Some (Branch word)) (tag_of word) ≡ Some spec
+    → IsSpec spec × (word ≡ spec_word spec)
 name_told word spec true is e = let same = some_is (Branch word) spec e in (subst IsSpec same is, ap spec_word same)
 name_told word spec false is e = tag_told word spec e
 

@@ -24,10 +24,12 @@ unfolding commit_at
 commit_spelled left command e =
     tells (number_kind 1) left _ command e (λ ws a is_ws at_ws e1.
     optional_text_tells a _ command e1 (λ message is_message at_message e2.
-    told_as (codes "commit") left (commands.Commit ws message) command (decimal ws ∷ optional_word message) (is_ws, is_message) (at_ws (optional_word message) at_message) (λ l e. e) e2))
+    told_as (codes "commit") left (commands.Commit ws message) command (decimal ws ∷ optional_word message) (is_ws, is_message)
+    (at_ws (optional_word message) at_message) (λ l e. e) e2))
 
 pub signed_read : (ws : ℕ) (author : List ℕ) (moment : ℕ) (message : Option (List ℕ)) → IsCommand (commands.Signed ws author moment message) → (column : ℕ)
-    → signed_at (record { rest = joined (decimal ws ∷ author ∷ decimal moment ∷ optional_word message); column = column }) ≡ Ok (commands.Signed ws author moment message)
+    → signed_at (record { rest = joined (decimal ws ∷ author ∷ decimal moment ∷ optional_word message); column = column }) ≡ Ok
+    (commands.Signed ws author moment message)
 unfolding signed_at
 signed_read ws author moment message is column =
     reads (number_kind 1) ws is.0 (author ∷ decimal moment ∷ optional_word message) column _ _
@@ -42,8 +44,10 @@ signed_spelled left command e =
     tells name_kind a _ command e1 (λ author b is_author at_author e2.
     tells moment_kind b _ command e2 (λ moment c is_moment at_moment e3.
     optional_text_tells c _ command e3 (λ message is_message at_message e4.
-    told_as (codes "signed") left (commands.Signed ws author moment message) command (decimal ws ∷ author ∷ decimal moment ∷ optional_word message) (is_ws, is_author, is_moment, is_message)
-    (at_ws (author ∷ decimal moment ∷ optional_word message) (at_author (decimal moment ∷ optional_word message) (at_moment (optional_word message) at_message))) (λ l e. e) e4))))
+    told_as (codes "signed") left (commands.Signed ws author moment message) command (decimal ws ∷ author ∷ decimal moment ∷ optional_word message)
+    (is_ws, is_author, is_moment, is_message)
+    (at_ws (author ∷ decimal moment ∷ optional_word message)
+    (at_author (decimal moment ∷ optional_word message) (at_moment (optional_word message) at_message))) (λ l e. e) e4))))
 
 pub branch_read : (ws : ℕ) (name : List ℕ) → IsCommand (commands.Branch ws name) → (column : ℕ)
     → branch_at (record { rest = joined (decimal ws ∷ name ∷ []); column = column }) ≡ Ok (commands.Branch ws name)
@@ -59,7 +63,8 @@ branch_spelled left command e =
     tells (number_kind 1) left _ command e (λ ws a is_ws at_ws e1.
     tells name_kind a _ command e1 (λ name b is_name at_name e2.
     let end = end_tells b _ command e2 in
-    told_as (codes "branch") left (commands.Branch ws name) command (decimal ws ∷ name ∷ []) (is_ws, is_name) (at_ws (name ∷ []) (at_name [] end.0)) (λ l e. e) end.1))
+    told_as (codes "branch") left (commands.Branch ws name) command (decimal ws ∷ name ∷ []) (is_ws, is_name) (at_ws (name ∷ []) (at_name [] end.0))
+    (λ l e. e) end.1))
 
 pub tag_read : (name : List ℕ) (spec : Spec) → IsCommand (commands.Tag name spec) → (column : ℕ)
     → tag_at (record { rest = joined (name ∷ spec_word spec ∷ []); column = column }) ≡ Ok (commands.Tag name spec)
@@ -75,7 +80,8 @@ tag_spelled left command e =
     tells name_kind left _ command e (λ name a is_name at_name e1.
     tells spec_kind a _ command e1 (λ spec b is_spec at_spec e2.
     let end = end_tells b _ command e2 in
-    told_as (codes "tag") left (commands.Tag name spec) command (name ∷ spec_word spec ∷ []) (is_name, is_spec) (at_name (spec_word spec ∷ []) (at_spec [] end.0)) (λ l e. e) end.1))
+    told_as (codes "tag") left (commands.Tag name spec) command (name ∷ spec_word spec ∷ []) (is_name, is_spec)
+    (at_name (spec_word spec ∷ []) (at_spec [] end.0)) (λ l e. e) end.1))
 
 pub log_read : (column : ℕ) → log_at (record { rest = joined []; column = column }) ≡ Ok commands.Log
 unfolding log_at
@@ -87,7 +93,8 @@ log_spelled left command e =
     let end = end_tells left _ command e in
     told_as (codes "log") left commands.Log command [] tt end.0 (λ l e. e) end.1
 
-pub package_read : (spec : Spec) → IsCommand (commands.Package spec) → (column : ℕ) → package_at (record { rest = joined (spec_word spec ∷ []); column = column }) ≡ Ok (commands.Package spec)
+pub package_read : (spec : Spec) → IsCommand (commands.Package spec) → (column : ℕ)
+    → package_at (record { rest = joined (spec_word spec ∷ []); column = column }) ≡ Ok (commands.Package spec)
 unfolding package_at
 package_read spec is column = reads spec_kind spec is [] column _ _ (λ a. refl)
 
@@ -98,7 +105,8 @@ package_spelled left command e =
     let end = end_tells a _ command e1 in
     told_as (codes "package") left (commands.Package spec) command (spec_word spec ∷ []) is_spec (at_spec [] end.0) (λ l e. e) end.1)
 
-pub drop_read : (ws : ℕ) → IsCommand (commands.Drop ws) → (column : ℕ) → drop_at (record { rest = joined (decimal ws ∷ []); column = column }) ≡ Ok (commands.Drop ws)
+pub drop_read : (ws : ℕ) → IsCommand (commands.Drop ws) → (column : ℕ)
+    → drop_at (record { rest = joined (decimal ws ∷ []); column = column }) ≡ Ok (commands.Drop ws)
 unfolding drop_at
 drop_read ws is column = reads (number_kind 1) ws is [] column _ _ (λ a. refl)
 

@@ -1,5 +1,6 @@
 -- Reading a word that stands first, and what stands first where a word was read.
-use Rattle.std.proofs.Common.{◌≡◌, ℕ, suc, ◌+◌, ◌<◌, ◌≤◌, List, [], ◌∷◌, ◌++◌, length, refl, sym, ap, subst, ◌∙◌, true, false, Bool, ◌||◌, cond, Option, None, Some, Ok, Err, arith, nat_eq, nat_lt, length-append, length-take}
+use Rattle.std.proofs.Common.{◌≡◌, ℕ, suc, ◌+◌, ◌<◌, ◌≤◌, List, [], ◌∷◌, ◌++◌, length, refl, sym, ap, subst, ◌∙◌, true, false, Bool, ◌||◌, cond}
+use Rattle.std.proofs.Common.{Option, None, Some, Ok, Err, arith, nat_eq, nat_lt, length-append, length-take}
 use Rattle.std.specs.List.{list_any, before_first, after_first, position_or_len}
 use Rattle.std.proofs.lemmas.Bool.{leb-true}
 use Rattle.std.proofs.lemmas.List.Sums.{passes_at_first, split_at_first}
@@ -48,11 +49,15 @@ module _ (word : List ℕ) (is : IsWord word) where
       let whole : before_first is_space word ≡ word = ap (before_first is_space) (sym (append-nil word)) ∙ before None in
       rw whole (rw (not_empty (length word) is.0) (rw (not_less (length word) (length word) (omega arith)) refl))
 
-  pub word_first : (rest : List ℕ) (column : ℕ) → word_at (record { rest = Some (word ++ (32 ∷ rest)); column = column }) ≡ Ok (word, record { rest = Some rest; column = column + length word + 1 })
+  pub word_first : (rest : List ℕ) (column : ℕ)
+      → word_at (record { rest = Some (word ++ (32 ∷ rest)); column = column }) ≡ Ok
+      (word, record { rest = Some rest; column = column + length word + 1 })
   unfolding word_at
   word_first rest column =
       let after : after_first is_space (word ++ (32 ∷ rest)) ≡ rest = rw (space_behind word is.1 (Some rest)) (drop-append-add word (32 ∷ rest) 1) in
-      rw (before (Some rest)) (rw (not_empty (length word) is.0) (rw (is_less (length word) (length (word ++ (32 ∷ rest))) (omega (arith, length-append word (32 ∷ rest)))) (rw after refl)))
+      rw (before (Some rest))
+      (rw (not_empty (length word) is.0)
+      (rw (is_less (length word) (length (word ++ (32 ∷ rest))) (omega (arith, length-append word (32 ∷ rest)))) (rw after refl)))
 
 -- no space stands before the first
 no_space_before : (rest : List ℕ) → list_any is_space (before_first is_space rest) ≡ false

@@ -6,7 +6,8 @@ use Rattle.script_lang.specs.declared.command.Spec.{Spec}
 use Rattle.script_lang.specs.declared.command.Command.{Command}
 use Rattle.script_lang.specs.declared.command.Command.TheVariants as commands
 use Rattle.script_lang.specs.Left.{Left}
-use Rattle.script_lang.specs.Command.{init_at, evolve_at, import_at, load_at, checkout_at, begin_at, end_line_at, undo_at, discard_at, changes_at, show_at, cat_at, validate_at}
+use Rattle.script_lang.specs.Command.{init_at, evolve_at, import_at, load_at, checkout_at, begin_at, end_line_at, undo_at, discard_at, changes_at}
+use Rattle.script_lang.specs.Command.{show_at, cat_at, validate_at}
 use Rattle.script_lang.specs.Spelling.{IsCommand, spec_word}
 use Rattle.script_lang.proofs.Readings.{reads, tells, joined, Tells, told_as}
 use Rattle.script_lang.proofs.FieldLemmas.{number_kind, end_tells}
@@ -32,7 +33,8 @@ evolve_spelled left command e =
     let end = end_tells left _ command e in
     told_as (codes "evolve") left commands.Evolve command [] tt end.0 (λ l e. e) end.1
 
-pub checkout_read : (spec : Spec) → IsCommand (commands.Checkout spec) → (column : ℕ) → checkout_at (record { rest = joined (spec_word spec ∷ []); column = column }) ≡ Ok (commands.Checkout spec)
+pub checkout_read : (spec : Spec) → IsCommand (commands.Checkout spec) → (column : ℕ)
+    → checkout_at (record { rest = joined (spec_word spec ∷ []); column = column }) ≡ Ok (commands.Checkout spec)
 unfolding checkout_at
 checkout_read spec is column = reads spec_kind spec is [] column _ _ (λ a. refl)
 
@@ -57,9 +59,11 @@ begin_spelled left command e =
     tells (number_kind 1) left _ command e (λ ws a is_ws at_ws e1.
     tells name_kind a _ command e1 (λ name b is_name at_name e2.
     let end = end_tells b _ command e2 in
-    told_as (codes "begin") left (commands.Begin ws name) command (decimal ws ∷ name ∷ []) (is_ws, is_name) (at_ws (name ∷ []) (at_name [] end.0)) (λ l e. e) end.1))
+    told_as (codes "begin") left (commands.Begin ws name) command (decimal ws ∷ name ∷ []) (is_ws, is_name) (at_ws (name ∷ []) (at_name [] end.0))
+    (λ l e. e) end.1))
 
-pub end_read : (ws : ℕ) → IsCommand (commands.End ws) → (column : ℕ) → end_line_at (record { rest = joined (decimal ws ∷ []); column = column }) ≡ Ok (commands.End ws)
+pub end_read : (ws : ℕ) → IsCommand (commands.End ws) → (column : ℕ)
+    → end_line_at (record { rest = joined (decimal ws ∷ []); column = column }) ≡ Ok (commands.End ws)
 unfolding end_line_at
 end_read ws is column = reads (number_kind 1) ws is [] column _ _ (λ a. refl)
 
@@ -70,7 +74,8 @@ end_spelled left command e =
     let end = end_tells a _ command e1 in
     told_as (codes "end") left (commands.End ws) command (decimal ws ∷ []) is_ws (at_ws [] end.0) (λ l e. e) end.1)
 
-pub import_read : (ws : ℕ) → IsCommand (commands.Import ws) → (column : ℕ) → import_at (record { rest = joined (decimal ws ∷ []); column = column }) ≡ Ok (commands.Import ws)
+pub import_read : (ws : ℕ) → IsCommand (commands.Import ws) → (column : ℕ)
+    → import_at (record { rest = joined (decimal ws ∷ []); column = column }) ≡ Ok (commands.Import ws)
 unfolding import_at
 import_read ws is column = reads (number_kind 1) ws is [] column _ _ (λ a. refl)
 
@@ -81,7 +86,8 @@ import_spelled left command e =
     let end = end_tells a _ command e1 in
     told_as (codes "import") left (commands.Import ws) command (decimal ws ∷ []) is_ws (at_ws [] end.0) (λ l e. e) end.1)
 
-pub load_read : (ws : ℕ) → IsCommand (commands.Load ws) → (column : ℕ) → load_at (record { rest = joined (decimal ws ∷ []); column = column }) ≡ Ok (commands.Load ws)
+pub load_read : (ws : ℕ) → IsCommand (commands.Load ws) → (column : ℕ)
+    → load_at (record { rest = joined (decimal ws ∷ []); column = column }) ≡ Ok (commands.Load ws)
 unfolding load_at
 load_read ws is column = reads (number_kind 1) ws is [] column _ _ (λ a. refl)
 
@@ -92,7 +98,8 @@ load_spelled left command e =
     let end = end_tells a _ command e1 in
     told_as (codes "load") left (commands.Load ws) command (decimal ws ∷ []) is_ws (at_ws [] end.0) (λ l e. e) end.1)
 
-pub undo_read : (ws : ℕ) → IsCommand (commands.Undo ws) → (column : ℕ) → undo_at (record { rest = joined (decimal ws ∷ []); column = column }) ≡ Ok (commands.Undo ws)
+pub undo_read : (ws : ℕ) → IsCommand (commands.Undo ws) → (column : ℕ)
+    → undo_at (record { rest = joined (decimal ws ∷ []); column = column }) ≡ Ok (commands.Undo ws)
 unfolding undo_at
 undo_read ws is column = reads (number_kind 1) ws is [] column _ _ (λ a. refl)
 
@@ -103,7 +110,8 @@ undo_spelled left command e =
     let end = end_tells a _ command e1 in
     told_as (codes "undo") left (commands.Undo ws) command (decimal ws ∷ []) is_ws (at_ws [] end.0) (λ l e. e) end.1)
 
-pub discard_read : (ws : ℕ) → IsCommand (commands.Discard ws) → (column : ℕ) → discard_at (record { rest = joined (decimal ws ∷ []); column = column }) ≡ Ok (commands.Discard ws)
+pub discard_read : (ws : ℕ) → IsCommand (commands.Discard ws) → (column : ℕ)
+    → discard_at (record { rest = joined (decimal ws ∷ []); column = column }) ≡ Ok (commands.Discard ws)
 unfolding discard_at
 discard_read ws is column = reads (number_kind 1) ws is [] column _ _ (λ a. refl)
 
@@ -114,7 +122,8 @@ discard_spelled left command e =
     let end = end_tells a _ command e1 in
     told_as (codes "discard") left (commands.Discard ws) command (decimal ws ∷ []) is_ws (at_ws [] end.0) (λ l e. e) end.1)
 
-pub changes_read : (ws : ℕ) → IsCommand (commands.Changes ws) → (column : ℕ) → changes_at (record { rest = joined (decimal ws ∷ []); column = column }) ≡ Ok (commands.Changes ws)
+pub changes_read : (ws : ℕ) → IsCommand (commands.Changes ws) → (column : ℕ)
+    → changes_at (record { rest = joined (decimal ws ∷ []); column = column }) ≡ Ok (commands.Changes ws)
 unfolding changes_at
 changes_read ws is column = reads (number_kind 1) ws is [] column _ _ (λ a. refl)
 
@@ -125,7 +134,8 @@ changes_spelled left command e =
     let end = end_tells a _ command e1 in
     told_as (codes "changes") left (commands.Changes ws) command (decimal ws ∷ []) is_ws (at_ws [] end.0) (λ l e. e) end.1)
 
-pub show_read : (ws : ℕ) → IsCommand (commands.Show ws) → (column : ℕ) → show_at (record { rest = joined (decimal ws ∷ []); column = column }) ≡ Ok (commands.Show ws)
+pub show_read : (ws : ℕ) → IsCommand (commands.Show ws) → (column : ℕ)
+    → show_at (record { rest = joined (decimal ws ∷ []); column = column }) ≡ Ok (commands.Show ws)
 unfolding show_at
 show_read ws is column = reads (number_kind 1) ws is [] column _ _ (λ a. refl)
 
@@ -136,7 +146,8 @@ show_spelled left command e =
     let end = end_tells a _ command e1 in
     told_as (codes "show") left (commands.Show ws) command (decimal ws ∷ []) is_ws (at_ws [] end.0) (λ l e. e) end.1)
 
-pub validate_read : (ws : ℕ) → IsCommand (commands.Validate ws) → (column : ℕ) → validate_at (record { rest = joined (decimal ws ∷ []); column = column }) ≡ Ok (commands.Validate ws)
+pub validate_read : (ws : ℕ) → IsCommand (commands.Validate ws) → (column : ℕ)
+    → validate_at (record { rest = joined (decimal ws ∷ []); column = column }) ≡ Ok (commands.Validate ws)
 unfolding validate_at
 validate_read ws is column = reads (number_kind 1) ws is [] column _ _ (λ a. refl)
 
@@ -147,7 +158,8 @@ validate_spelled left command e =
     let end = end_tells a _ command e1 in
     told_as (codes "validate") left (commands.Validate ws) command (decimal ws ∷ []) is_ws (at_ws [] end.0) (λ l e. e) end.1)
 
-pub cat_read : (spec : Spec) → IsCommand (commands.Cat spec) → (column : ℕ) → cat_at (record { rest = joined (spec_word spec ∷ []); column = column }) ≡ Ok (commands.Cat spec)
+pub cat_read : (spec : Spec) → IsCommand (commands.Cat spec) → (column : ℕ)
+    → cat_at (record { rest = joined (spec_word spec ∷ []); column = column }) ≡ Ok (commands.Cat spec)
 unfolding cat_at
 cat_read spec is column = reads spec_kind spec is [] column _ _ (λ a. refl)
 

@@ -12,7 +12,8 @@ use Rattle.script_lang.specs.Left.{Left}
 use Rattle.model_state.specs.Names.{is_name}
 use Rattle.hex.specs.Hex.{decode_of}
 use Rattle.hex.specs.declared.error.FromHexError.{FromHexError}
-use Rattle.script_lang.specs.Words.{◌>>=◌, word_at, number_of, number_at, found_at, end_at, name_at, optional_at, optional_number_at, rest_at, optional_rest_at, index_or_end_at, moment_at, is_word, IsBad}
+use Rattle.script_lang.specs.Words.{◌>>=◌, word_at, number_of, number_at, found_at, end_at, name_at, optional_at, optional_number_at, rest_at}
+use Rattle.script_lang.specs.Words.{optional_rest_at, index_or_end_at, moment_at, is_word, IsBad}
 
 -- `@` and a name is a tag's
 abbrev pub tag_of : List ℕ → Option Spec

@@ -2,7 +2,12 @@
 use Rattle.std.specs.Prelude.{ℕ, List, [], ◌∷◌, ◌++◌, codes, Some, None}
 use Rattle.std.specs.Fmt.{decimal}
 use Rattle.script_lang.specs.declared.reply.Refusal.{Refusal}
-use Rattle.script_lang.specs.declared.reply.Refusal.TheVariants.{BadLine, NotInit, AlreadyInit, BadMetamodel, NoWorkspace, NoVersion, NoBranch, BranchExists, TagExists, NoElement, IdInUse, BadId, NoClass, Abstract, NoFeature, WrongKind, BadValue, WrongType, Bound, AlreadyThere, NoEntry, WouldCycle, NothingLocal, Stale, Conflicts, BadChoice, CompositeOpen, NoComposite, BadModel, Interferes, SameBranch, NotOnPath, HistoryFull, TooLarge, JournalFull, NotApplicable, NotForm, NotExtension, OldForm, Unsigned, Denied, TooLong, NotPrintable}
+use Rattle.script_lang.specs.declared.reply.Refusal.TheVariants.{BadLine, NotInit, AlreadyInit, BadMetamodel, NoWorkspace, NoVersion, NoBranch}
+use Rattle.script_lang.specs.declared.reply.Refusal.TheVariants.{BranchExists, TagExists, NoElement, IdInUse, BadId, NoClass, Abstract, NoFeature}
+use Rattle.script_lang.specs.declared.reply.Refusal.TheVariants.{WrongKind, BadValue, WrongType, Bound, AlreadyThere, NoEntry, WouldCycle}
+use Rattle.script_lang.specs.declared.reply.Refusal.TheVariants.{NothingLocal, Stale, Conflicts, BadChoice, CompositeOpen, NoComposite, BadModel}
+use Rattle.script_lang.specs.declared.reply.Refusal.TheVariants.{Interferes, SameBranch, NotOnPath, HistoryFull, TooLarge, JournalFull, NotApplicable}
+use Rattle.script_lang.specs.declared.reply.Refusal.TheVariants.{NotForm, NotExtension, OldForm, Unsigned, Denied, TooLong, NotPrintable}
 use Rattle.script_lang.specs.declared.reply.Fields.{Fields}
 use Rattle.script_lang.specs.declared.reply.Fields.TheVariants as fields
 use Rattle.script_lang.specs.declared.reply.Last.{Last}

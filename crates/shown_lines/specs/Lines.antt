@@ -62,7 +62,8 @@ step_words meta (Unlink a f ra b rb) = codes "unlink" ∷ a ∷ feature_name met
 step_words meta (RerankRow a f b old new) = codes "rerank" ∷ a ∷ feature_name meta f ∷ b ∷ decimal old ∷ decimal new ∷ []
 step_words meta (New e class place rank) = codes "new" ∷ e ∷ class_name meta class ∷ place_word meta place ∷ decimal rank ∷ []
 step_words meta (Gone e class place rank) = codes "gone" ∷ e ∷ class_name meta class ∷ place_word meta place ∷ decimal rank ∷ []
-step_words meta (Move e from from_rank to to_rank above_from above_to) = codes "move" ∷ e ∷ place_word meta from ∷ decimal from_rank ∷ place_word meta to ∷ decimal to_rank ∷ []
+step_words meta (Move e from from_rank to to_rank above_from above_to) =
+    codes "move" ∷ e ∷ place_word meta from ∷ decimal from_rank ∷ place_word meta to ∷ decimal to_rank ∷ []
 step_words meta (RerankPlace e old new) = codes "place" ∷ e ∷ decimal old ∷ decimal new ∷ []
 
 -- a step's line begins with a space

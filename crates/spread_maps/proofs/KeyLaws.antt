@@ -38,7 +38,8 @@ one_first n w c v t b e f g h = omega arith
 module _ {K X : Type 0} {R : K → K → Ordering} (o : IsKeyOrder R) where
   all_after : (k : K) (es : List (K × X)) → T (below_all R k es) → AllByRecursion (λ y. is_lt (R y k) ≡ false) (map {B = K} (λ e. e.0) es)
   all_after k [] h = tt
-  all_after k (e ∷ es) h = (ap is_lt (o.total.antisymm e.0 k) ∙ less_back (R k e.0) (R e.0 k) (o.total.antisymm k e.0) (first _ _ h), all_after k es (second _ _ h))
+  all_after k (e ∷ es) h =
+      (ap is_lt (o.total.antisymm e.0 k) ∙ less_back (R k e.0) (R e.0 k) (o.total.antisymm k e.0) (first _ _ h), all_after k es (second _ _ h))
     where
       less_back : (r s : Ordering) → r ≡ ordering_reverse s → T (is_lt r) → is_lt (ordering_reverse r) ≡ false
       less_back r s e p = less_after r p
@@ -58,9 +59,11 @@ module _ {K X : Type 0} {R : K → K → Ordering} (o : IsKeyOrder R) (e : K →
   not_any k [] h = refl
   not_any k (x ∷ xs) h = ap (λ b. b || list_any (eq_by_cmp R k) xs) (sym (alike k x) ∙ h.0) ∙ not_any k xs h.1
 
-  tally_tabulated : (p : K → Bool) (ks : List K) → IsDistinct e ks → AllByRecursion (λ k. is_some (f k) ≡ true) ks → count (λ (x : K × X). p x.0) (tabulate R f ks) ≡ tally p ks
+  tally_tabulated : (p : K → Bool) (ks : List K) → IsDistinct e ks → AllByRecursion (λ k. is_some (f k) ≡ true) ks
+      → count (λ (x : K × X). p x.0) (tabulate R f ks) ≡ tally p ks
   unfolding IsDistinct
-  tally_tabulated p [] apart found = count_none o (λ (x : K × X). p x.0) (tabulate R f []) (λ k v is. absurd (no_entry (get (tabulate R f []) k) v (get-empty R k) is))
+  tally_tabulated p [] apart found =
+      count_none o (λ (x : K × X). p x.0) (tabulate R f []) (λ k v is. absurd (no_entry (get (tabulate R f []) k) v (get-empty R k) is))
   tally_tabulated p (k ∷ ks) apart found =
       let pe : K × X → Bool = λ (x : K × X). p x.0 in
       let m = tabulate R f ks in

@@ -37,7 +37,8 @@ abbrev pub part : {K X L Y : Type 0} (p : K × X → Bool) (g : K × X → L × 
 part p g there l None = None
 part p g there l (Some x) = cond (p (there l, x)) (Some (g (there l, x)).1) None
 
-module _ {K X L Y : Type 0} {R : K → K → Ordering} {S : L → L → Ordering} (o : IsKeyOrder R) (s : IsKeyOrder S) (p : K × X → Bool) (g : K × X → L × Y) (there : L → K)
+module _ {K X L Y : Type 0} {R : K → K → Ordering} {S : L → L → Ordering} (o : IsKeyOrder R) (s : IsKeyOrder S) (p : K × X → Bool) (g : K × X → L × Y)
+    (there : L → K)
     (rises : (e d : K × X) → p e ≡ true → p d ≡ true → R e.0 d.0 ≡ Less → S (g e).0 (g d).0 ≡ Less)
     (back : (e : K × X) → p e ≡ true → there (g e).0 ≡ e.0)
     (forth : (l : L) (x : X) → p (there l, x) ≡ true → (g (there l, x)).0 ≡ l) where
@@ -80,9 +81,11 @@ module _ {K X L Y : Type 0} {R : K → K → Ordering} {S : L → L → Ordering
   find-parts l [] h = refl
   find-parts l (e ∷ es) h =
       let rest = find-parts l es (second _ _ h) in
-      elim (p e) as (λ b. p e ≡ b → find S l (cond b (g e ∷ parts es) (parts es)) ≡ part p g there l (cond (eq_by_cmp R (there l) e.0) (Some e.1) (find R (there l) es))) [
+      elim (p e) as (λ b. p e ≡ b
+      → find S l (cond b (g e ∷ parts es) (parts es)) ≡ part p g there l (cond (eq_by_cmp R (there l) e.0) (Some e.1) (find R (there l) es))) [
         | true ↦ λ is.
-            elim (eq_by_cmp R (there l) e.0) as (λ t. eq_by_cmp R (there l) e.0 ≡ t → cond (eq_by_cmp S l (g e).0) (Some (g e).1) (find S l (parts es)) ≡ part p g there l (cond t (Some e.1) (find R (there l) es))) [
+            elim (eq_by_cmp R (there l) e.0) as (λ t. eq_by_cmp R (there l) e.0 ≡ t
+            → cond (eq_by_cmp S l (g e).0) (Some (g e).1) (find S l (parts es)) ≡ part p g there l (cond t (Some e.1) (find R (there l) es))) [
               | true ↦ λ t.
                   let here : there l ≡ e.0 = same_key o (there l) e.0 t in
                   let own : (g e).0 ≡ l = ap (λ k. (g (k, e.1)).0) (sym here) ∙ forth l e.1 (ap (λ k. p (k, e.1)) here ∙ is) in
@@ -90,11 +93,14 @@ module _ {K X L Y : Type 0} {R : K → K → Ordering} {S : L → L → Ordering
                   ∙ sym (ap (λ b. cond b (Some (g (there l, e.1)).1) None) (ap (λ k. p (k, e.1)) here ∙ is) ∙ ap (λ k. Some (g (k, e.1)).1) here)
               | false ↦ λ t.
                   ap (λ b. cond b (Some (g e).1) (find S l (parts es)))
-                  (not_so (eq_by_cmp S l (g e).0) (λ q. true_false (eq_by_cmp R (there l) e.0) (subst (λ k. eq_by_cmp R k e.0 ≡ true) (sym (ap there (same_key s l (g e).0 q) ∙ back e is)) (own_key o e.0)) t))
+                  (not_so (eq_by_cmp S l (g e).0)
+                  (λ q. true_false (eq_by_cmp R (there l) e.0)
+                  (subst (λ k. eq_by_cmp R k e.0 ≡ true) (sym (ap there (same_key s l (g e).0 q) ∙ back e is)) (own_key o e.0)) t))
                   ∙ rest
             ] refl
         | false ↦ λ is.
-            elim (eq_by_cmp R (there l) e.0) as (λ t. eq_by_cmp R (there l) e.0 ≡ t → find S l (parts es) ≡ part p g there l (cond t (Some e.1) (find R (there l) es))) [
+            elim (eq_by_cmp R (there l) e.0) as (λ t. eq_by_cmp R (there l) e.0 ≡ t
+            → find S l (parts es) ≡ part p g there l (cond t (Some e.1) (find R (there l) es))) [
               | true ↦ λ t.
                   let here : there l ≡ e.0 = same_key o (there l) e.0 t in
                   let none : find R (there l) es ≡ None = subst (λ k. find R k es ≡ None) (sym here) (find_below R e.0 es (first _ _ h)) in
@@ -108,6 +114,7 @@ module _ {K X L Y : Type 0} {R : K → K → Ordering} {S : L → L → Ordering
   entries-part m n holds =
       let sorted = sorted_parts (entries m) (entries_sorted m) in
       ap entries (same s n (from_sorted (parts (entries m))) (λ l.
-      holds l ∙ ap (part p g there l) (get-entries m (there l)) ∙ sym (find-parts l (entries m) (entries_sorted m)) ∙ sym (get-from_sorted S (parts (entries m)) l sorted)))
+      holds l ∙ ap (part p g there l) (get-entries m (there l)) ∙ sym (find-parts l (entries m) (entries_sorted m))
+      ∙ sym (get-from_sorted S (parts (entries m)) l sorted)))
       ∙ entries-from_sorted S (parts (entries m)) sorted
       ∙ parts_are (entries m)

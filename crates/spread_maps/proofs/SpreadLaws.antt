@@ -53,35 +53,47 @@ pub record IsJoined {E L K : Type 0} (j : Joined E L K) : Type 0 where
   pub first_is : (e : E) (l : L) → j.first (j.both e l) ≡ e
   pub second_is : (e : E) (l : L) → j.second (j.both e l) ≡ l
 
-module _ {E N L X K : Type 0} {P : E → E → Ordering} {Q : L → L → Ordering} {R : K → K → Ordering} (p : IsKeyOrder P) (o : IsKeyOrder Q) (r : IsKeyOrder R) (j : Joined E L K) (jj : IsJoined j) (part : N → FinMap Q X) where
-  listed_here : (ys : List (L × X)) (e : E) (l : L) (v : X) → find Q l ys ≡ Some v → list_any (eq_by_cmp R (j.both e l)) (map {B = K} (λ y. j.both e y.0) ys) ≡ true
+module _ {E N L X K : Type 0} {P : E → E → Ordering} {Q : L → L → Ordering} {R : K → K → Ordering} (p : IsKeyOrder P) (o : IsKeyOrder Q)
+    (r : IsKeyOrder R) (j : Joined E L K) (jj : IsJoined j) (part : N → FinMap Q X) where
+  listed_here : (ys : List (L × X)) (e : E) (l : L) (v : X) → find Q l ys ≡ Some v
+      → list_any (eq_by_cmp R (j.both e l)) (map {B = K} (λ y. j.both e y.0) ys) ≡ true
   listed_here [] e l v h = cc
   listed_here (y ∷ ys) e l v h =
-      elim (eq_by_cmp Q l y.0) as (λ b. eq_by_cmp Q l y.0 ≡ b → cond b (Some y.1) (find Q l ys) ≡ Some v → list_any (eq_by_cmp R (j.both e l)) (map {B = K} (λ y. j.both e y.0) (y ∷ ys)) ≡ true) [
-        | true ↦ λ is _. or_first (eq_by_cmp R (j.both e l) (j.both e y.0)) (list_any (eq_by_cmp R (j.both e l)) (map {B = K} (λ y. j.both e y.0) ys)) (subst (λ x. eq_by_cmp R (j.both e l) (j.both e x) ≡ true) (same_key o l y.0 is) (own_key r (j.both e l)))
-        | false ↦ λ is rest. or_second (eq_by_cmp R (j.both e l) (j.both e y.0)) (list_any (eq_by_cmp R (j.both e l)) (map {B = K} (λ y. j.both e y.0) ys)) (listed_here ys e l v rest)
+      elim (eq_by_cmp Q l y.0) as (λ b. eq_by_cmp Q l y.0 ≡ b → cond b (Some y.1) (find Q l ys) ≡ Some v
+      → list_any (eq_by_cmp R (j.both e l)) (map {B = K} (λ y. j.both e y.0) (y ∷ ys)) ≡ true) [
+        | true ↦ λ is _. or_first (eq_by_cmp R (j.both e l) (j.both e y.0)) (list_any (eq_by_cmp R (j.both e l)) (map {B = K} (λ y. j.both e y.0) ys))
+            (subst (λ x. eq_by_cmp R (j.both e l) (j.both e x) ≡ true) (same_key o l y.0 is) (own_key r (j.both e l)))
+        | false ↦ λ is rest. or_second (eq_by_cmp R (j.both e l) (j.both e y.0))
+            (list_any (eq_by_cmp R (j.both e l)) (map {B = K} (λ y. j.both e y.0) ys)) (listed_here ys e l v rest)
       ] refl h
 
-  listed : (es : List (E × N)) (e : E) (n : N) (l : L) (v : X) → find P e es ≡ Some n → find Q l (entries (part n)) ≡ Some v → list_any (eq_by_cmp R (j.both e l)) (inner_keys j.both part es) ≡ true
+  listed : (es : List (E × N)) (e : E) (n : N) (l : L) (v : X) → find P e es ≡ Some n → find Q l (entries (part n)) ≡ Some v
+      → list_any (eq_by_cmp R (j.both e l)) (inner_keys j.both part es) ≡ true
   listed [] e n l v h g = cc
   listed (x ∷ es) e n l v h g =
-      elim (eq_by_cmp P e x.0) as (λ b. eq_by_cmp P e x.0 ≡ b → cond b (Some x.1) (find P e es) ≡ Some n → list_any (eq_by_cmp R (j.both e l)) (inner_keys j.both part (x ∷ es)) ≡ true) [
+      elim (eq_by_cmp P e x.0) as (λ b. eq_by_cmp P e x.0 ≡ b → cond b (Some x.1) (find P e es) ≡ Some n
+      → list_any (eq_by_cmp R (j.both e l)) (inner_keys j.both part (x ∷ es)) ≡ true) [
         | true ↦ λ is here. any_left (eq_by_cmp R (j.both e l)) (map {B = K} (λ y. j.both x.0 y.0) (entries (part x.1))) (inner_keys j.both part es)
             (subst (λ z. list_any (eq_by_cmp R (j.both e l)) (map {B = K} (λ y. j.both z y.0) (entries (part x.1))) ≡ true) (same_key p e x.0 is)
             (listed_here (entries (part x.1)) e l v (ap (λ n. find Q l (entries (part n))) (one_node x.1 n here) ∙ g)))
-        | false ↦ λ is rest. any_right (eq_by_cmp R (j.both e l)) (map {B = K} (λ y. j.both x.0 y.0) (entries (part x.1))) (inner_keys j.both part es) (listed es e n l v rest g)
+        | false ↦ λ is rest. any_right (eq_by_cmp R (j.both e l)) (map {B = K} (λ y. j.both x.0 y.0) (entries (part x.1))) (inner_keys j.both part es)
+            (listed es e n l v rest g)
       ] refl h
     where
       one_node : (x y : N) → Some x ≡ Some y → x ≡ y
       one_node x y e = cc
 
-  unlisted : (m : FinMap P N) (q : K) → list_any (eq_by_cmp R q) (inner_keys j.both part (entries m)) ≡ false → inner part (get m (j.first q)) (j.second q) ≡ None
+  unlisted : (m : FinMap P N) (q : K) → list_any (eq_by_cmp R q) (inner_keys j.both part (entries m)) ≡ false
+      → inner part (get m (j.first q)) (j.second q) ≡ None
   unlisted m q none =
       elim (get m (j.first q)) as (λ a. get m (j.first q) ≡ a → inner part a (j.second q) ≡ None) [
         | None ↦ λ _. refl
         | Some n ↦ λ is. elim (get (part n) (j.second q)) as (λ a. get (part n) (j.second q) ≡ a → a ≡ None) [
           | None ↦ λ _. refl
-          | Some v ↦ λ there. absurd (clash _ (subst (λ k. list_any (eq_by_cmp R k) (inner_keys j.both part (entries m)) ≡ true) (jj.whole q) (listed (entries m) (j.first q) n (j.second q) v (sym (get-entries m (j.first q)) ∙ is) (sym (get-entries (part n) (j.second q)) ∙ there))) none)
+          | Some v ↦ λ there. absurd
+              (clash _ (subst (λ k. list_any (eq_by_cmp R k) (inner_keys j.both part (entries m)) ≡ true) (jj.whole q)
+              (listed (entries m) (j.first q) n (j.second q) v (sym (get-entries m (j.first q)) ∙ is)
+              (sym (get-entries (part n) (j.second q)) ∙ there))) none)
         ] refl
       ] refl
     where
@@ -92,7 +104,8 @@ module _ {E N L X K : Type 0} {P : E → E → Ordering} {Q : L → L → Orderi
   get-spread m q = get-tabulate r (λ k. inner part (get m (j.first k)) (j.second k)) (inner_keys j.both part (entries m)) (unlisted m) q
 
   -- another node with the same part
-  pub spread_alike : (m : FinMap P N) (k : E) (w : Option N) → ((l : L) → inner part w l ≡ inner part (get m k) l) → spread R j part (set m k w) ≡ spread R j part m
+  pub spread_alike : (m : FinMap P N) (k : E) (w : Option N) → ((l : L) → inner part w l ≡ inner part (get m k) l)
+      → spread R j part (set m k w) ≡ spread R j part m
   spread_alike m k w h = same r _ _ (λ q.
       get-spread (set m k w) q
       ∙ by_key p (λ e. inner part (get (set m k w) e) (j.second q) ≡ inner part (get m e) (j.second q)) k (j.first q)
@@ -101,10 +114,13 @@ module _ {E N L X K : Type 0} {P : E → E → Ordering} {Q : L → L → Orderi
       ∙ sym (get-spread m q))
 
   -- another node with one entry of its part written
-  pub spread-set : (m : FinMap P N) (k : E) (w : Option N) (l : L) (v : Option X) → ((i : L) → inner part w i ≡ cond (eq_by_cmp Q i l) v (inner part (get m k) i)) → spread R j part (set m k w) ≡ set (spread R j part m) (j.both k l) v
+  pub spread-set : (m : FinMap P N) (k : E) (w : Option N) (l : L) (v : Option X)
+      → ((i : L) → inner part w i ≡ cond (eq_by_cmp Q i l) v (inner part (get m k) i))
+      → spread R j part (set m k w) ≡ set (spread R j part m) (j.both k l) v
   spread-set m k w l v h = same r _ _ (λ q.
       get-spread (set m k w) q
-      ∙ elim (eq_by_cmp R q (j.both k l)) as (λ b. eq_by_cmp R q (j.both k l) ≡ b → inner part (get (set m k w) (j.first q)) (j.second q) ≡ cond b v (inner part (get m (j.first q)) (j.second q))) [
+      ∙ elim (eq_by_cmp R q (j.both k l)) as (λ b. eq_by_cmp R q (j.both k l) ≡ b
+      → inner part (get (set m k w) (j.first q)) (j.second q) ≡ cond b v (inner part (get m (j.first q)) (j.second q))) [
         | true ↦ λ is.
             let whole : q ≡ j.both k l = same_key r q (j.both k l) is in
             let first : j.first q ≡ k = ap j.first whole ∙ jj.first_is k l in
@@ -114,12 +130,16 @@ module _ {E N L X K : Type 0} {P : E → E → Ordering} {Q : L → L → Orderi
             ∙ h l ∙ ap (λ b. cond b v (inner part (get m k) l)) (own_key o l)
         | false ↦ λ differ.
             ap (λ a. inner part a (j.second q)) (get-set p m k w (j.first q))
-            ∙ elim (eq_by_cmp P (j.first q) k) as (λ b. eq_by_cmp P (j.first q) k ≡ b → inner part (cond b w (get m (j.first q))) (j.second q) ≡ inner part (get m (j.first q)) (j.second q)) [
+            ∙ elim (eq_by_cmp P (j.first q) k) as (λ b. eq_by_cmp P (j.first q) k ≡ b
+            → inner part (cond b w (get m (j.first q))) (j.second q) ≡ inner part (get m (j.first q)) (j.second q)) [
               | true ↦ λ is.
                   let first : j.first q ≡ k = same_key p (j.first q) k is in
                   h (j.second q)
-                  ∙ elim (eq_by_cmp Q (j.second q) l) as (λ b. eq_by_cmp Q (j.second q) l ≡ b → cond b v (inner part (get m k) (j.second q)) ≡ inner part (get m k) (j.second q)) [
-                    | true ↦ λ one. absurd (clash _ (subst (λ x. eq_by_cmp R q x ≡ true) (sym (jj.whole q) ∙ (λ i. j.both (first i) (same_key o (j.second q) l one i))) (own_key r q)) differ)
+                  ∙ elim (eq_by_cmp Q (j.second q) l) as (λ b. eq_by_cmp Q (j.second q) l ≡ b
+                  → cond b v (inner part (get m k) (j.second q)) ≡ inner part (get m k) (j.second q)) [
+                    | true ↦ λ one. absurd
+                        (clash _ (subst (λ x. eq_by_cmp R q x ≡ true) (sym (jj.whole q) ∙ (λ i. j.both (first i) (same_key o (j.second q) l one i)))
+                        (own_key r q)) differ)
                     | false ↦ λ _. refl
                   ] refl
                   ∙ ap (λ e. inner part (get m e) (j.second q)) (sym first)

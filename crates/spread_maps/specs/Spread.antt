@@ -34,7 +34,8 @@ pub record Joined (E L K : Type 0) : Type 0 where
   pub both : E → L → K
 
 -- the parts of all nodes as one map
-abbrev pub spread : {E N L X K : Type 0} {P : E → E → Ordering} {Q : L → L → Ordering} (R : K → K → Ordering) → Joined E L K → (N → FinMap Q X) → FinMap P N → FinMap R X
+abbrev pub spread : {E N L X K : Type 0} {P : E → E → Ordering} {Q : L → L → Ordering} (R : K → K → Ordering) → Joined E L K → (N → FinMap Q X)
+    → FinMap P N → FinMap R X
 spread R j part m = tabulate R (λ k. inner part (get m (j.first k)) (j.second k)) (inner_keys j.both part (entries m))
 
 -- the map has no entry

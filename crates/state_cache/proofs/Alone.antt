@@ -6,13 +6,15 @@ use Rattle.state_cache.specs.Entries.{Entries, held, IsCached, HoldsAll, KeepsAp
 pub none_held : (pool : Frames) (entries : Entries) → out_of pool ≡ 0 → entries ≡ [] → HoldsAll pool entries
 none_held pool entries out is = subst (λ (es : Entries). HoldsAll pool es) (sym is) (record { out = tt; count = out })
 
-pub stored_all : (before after : Frames) (version : ℕ) (bytes : List ℕ) (old new : Entries) → HoldsAll before old → IsStored before after version bytes old new → IsCached after new → HoldsAll after new
+pub stored_all : (before after : Frames) (version : ℕ) (bytes : List ℕ) (old new : Entries) → HoldsAll before old
+    → IsStored before after version bytes old new → IsCached after new → HoldsAll after new
 stored_all before after version bytes old new all stored out = record {
   out = out;
   count = let b = stored.out_before in let a = stored.out_after in let n = all.count in omega (arith, b, a, n);
 }
 
-pub yielded_all : (before after : Frames) (needed : ℕ) (old new : Entries) → HoldsAll before old → IsYielded before after needed old new → IsCached after new → HoldsAll after new
+pub yielded_all : (before after : Frames) (needed : ℕ) (old new : Entries) → HoldsAll before old → IsYielded before after needed old new
+    → IsCached after new → HoldsAll after new
 yielded_all before after needed old new all yielded out = record {
   out = out;
   count = let b = yielded.out_before in let a = yielded.out_after in let n = all.count in omega (arith, b, a, n);
@@ -23,7 +25,8 @@ pub apart_then : (a b c : Frames) (x y z : Entries) → KeepsApart a b x y → K
 apart_then a b c x y z one two k bytes not is = let first = one k bytes not is in two k bytes first.0 first.1
 
 -- the same entries and as many frames
-pub same_all : (before after : Frames) (old new : Entries) → HoldsAll before old → new ≡ old → out_of after ≡ out_of before → IsCached after new → HoldsAll after new
+pub same_all : (before after : Frames) (old new : Entries) → HoldsAll before old → new ≡ old → out_of after ≡ out_of before → IsCached after new
+    → HoldsAll after new
 same_all before after old new all same outs out = record {
   out = out;
   count = outs ∙ all.count ∙ sym (ap (λ (es : Entries). length (held es)) same);

@@ -1,5 +1,6 @@
 -- Entries, what they stand for, and the frames that they hold.
-use Rattle.std.proofs.Common.{◌≡◌, inl, inr, ℕ, ◌+◌, ◌-◌, ◌<◌, ◌≤◌, Bool, true, false, cond, List, [], ◌∷◌, ◌++◌, length, take, refl, sym, ap, subst, ◌∙◌, arith, length-append}
+use Rattle.std.proofs.Common.{◌≡◌, inl, inr, ℕ, ◌+◌, ◌-◌, ◌<◌, ◌≤◌, Bool, true, false, cond, List, [], ◌∷◌, ◌++◌, length, take, refl, sym, ap, subst}
+use Rattle.std.proofs.Common.{◌∙◌, arith, length-append}
 use Rattle.std.specs.Prelude.{Option, None, Some, option_map, nat_eq}
 use Rattle.std.proofs.lemmas.List.{take_all}
 use Rattle.std.proofs.lemmas.Bool.{eqb-true}
@@ -19,7 +20,8 @@ module _ (t : ℕ → Bool) where
   pub none_of : (es : Entries) → lookup t es ≡ None → (lookup_entry t es ≡ None) × (remove_entry t es ≡ es)
   none_of [] h = (refl, refl)
   none_of (e ∷ es) h =
-      elim (t e.0) as (λ b. cond b (Some e.1) (lookup t es) ≡ None → (cond b (Some e) (lookup_entry t es) ≡ None) × (cond b es (e ∷ remove_entry t es) ≡ e ∷ es)) [
+      elim (t e.0) as (λ b. cond b (Some e.1) (lookup t es) ≡ None
+      → (cond b (Some e) (lookup_entry t es) ≡ None) × (cond b es (e ∷ remove_entry t es) ≡ e ∷ es)) [
         | true ↦ λ is. absurd (cc)
         | false ↦ λ is. let r = none_of es is in (r.0, ap (λ (l : Entries). e ∷ l) r.1)
       ] h
@@ -27,7 +29,8 @@ module _ (t : ℕ → Bool) where
   pub entry_of : (es : Entries) (p : PagedState) → lookup t es ≡ Some p → (k : ℕ) × (lookup_entry t es ≡ Some (k, p)) × (t k ≡ true)
   entry_of [] p h = cc
   entry_of (e ∷ es) p h =
-      elim (t e.0) as (λ b. t e.0 ≡ b → cond b (Some e.1) (lookup t es) ≡ Some p → (k : ℕ) × (cond b (Some e) (lookup_entry t es) ≡ Some (k, p)) × (t k ≡ true)) [
+      elim (t e.0) as (λ b. t e.0 ≡ b → cond b (Some e.1) (lookup t es) ≡ Some p
+      → (k : ℕ) × (cond b (Some e) (lookup_entry t es) ≡ Some (k, p)) × (t k ≡ true)) [
         | true ↦ λ here is. (e.0, ap (λ (q : PagedState). Some (e.0, q)) (same_some e.1 p is), here)
         | false ↦ λ here is. entry_of es p is
       ] refl h
@@ -43,7 +46,8 @@ module _ (t : ℕ → Bool) where
   pub lookup_entry_stands : (ps : Frames) (es : Entries) → lookup_entry t (stands ps es) ≡ option_map (λ e. (e.0, content ps e.1)) (lookup_entry t es)
   lookup_entry_stands ps [] = refl
   lookup_entry_stands ps (e ∷ es) =
-      elim (t e.0) as (λ b. cond b (Some (e.0, content ps e.1)) (lookup_entry t (stands ps es)) ≡ option_map (λ (f : ℕ × PagedState). (f.0, content ps f.1)) (cond b (Some e) (lookup_entry t es))) [
+      elim (t e.0) as (λ b. cond b (Some (e.0, content ps e.1)) (lookup_entry t (stands ps es)) ≡ option_map
+      (λ (f : ℕ × PagedState). (f.0, content ps f.1)) (cond b (Some e) (lookup_entry t es))) [
         | true ↦ refl
         | false ↦ lookup_entry_stands ps es
       ]
@@ -59,20 +63,26 @@ module _ (t : ℕ → Bool) where
   pub promoted_stands : (ps : Frames) (es : Entries) → promoted t (stands ps es) ≡ stands ps (promoted t es)
   promoted_stands ps es =
       ap (λ (o : Option (ℕ × List ℕ)). option_map_or (λ e. e ∷ remove_entry t (stands ps es)) o (stands ps es)) (lookup_entry_stands ps es)
-      ∙ ap (λ (l : List (ℕ × List ℕ)). option_map_or (λ e. e ∷ l) (option_map (λ e. (e.0, content ps e.1)) (lookup_entry t es)) (stands ps es)) (remove_stands ps es)
+      ∙ ap (λ (l : List (ℕ × List ℕ)). option_map_or (λ e. e ∷ l) (option_map (λ e. (e.0, content ps e.1)) (lookup_entry t es)) (stands ps es))
+      (remove_stands ps es)
       ∙ split (lookup_entry t es)
     where
-      split : (o : Option (ℕ × PagedState)) → option_map_or (λ e. e ∷ stands ps (remove_entry t es)) (option_map (λ e. (e.0, content ps e.1)) o) (stands ps es) ≡ stands ps (option_map_or (λ e. e ∷ remove_entry t es) o es)
+      split : (o : Option (ℕ × PagedState))
+          → option_map_or (λ e. e ∷ stands ps (remove_entry t es)) (option_map (λ e. (e.0, content ps e.1)) o) (stands ps es) ≡ stands ps
+          (option_map_or (λ e. e ∷ remove_entry t es) o es)
       split None = refl
       split (Some e) = refl
 
   -- the frames of the entry that is found, and those of the others
-  pub removed_parts : (ps : Frames) (es : Entries) (p : PagedState) → lookup t es ≡ Some p → IsCached ps es → Parts ps (held es) p.frames (held (remove_entry t es))
+  pub removed_parts : (ps : Frames) (es : Entries) (p : PagedState) → lookup t es ≡ Some p → IsCached ps es
+      → Parts ps (held es) p.frames (held (remove_entry t es))
   removed_parts ps [] p h out = cc
   removed_parts ps (e ∷ es) p h out =
       elim (t e.0) as (λ b. cond b (Some e.1) (lookup t es) ≡ Some p → Parts ps (e.1.frames ++ held es) p.frames (held (cond b es (e ∷ remove_entry t es)))) [
-        | true ↦ λ is. subst (λ (q : PagedState). Parts ps (e.1.frames ++ held es) q.frames (held es)) (same_some e.1 p is) (parts_front ps e.1.frames (held es) out)
-        | false ↦ λ is. parts_after ps e.1.frames (held es) p.frames (held (remove_entry t es)) out (removed_parts ps es p is (parts_front ps e.1.frames (held es) out).left_out)
+        | true ↦ λ is. subst (λ (q : PagedState). Parts ps (e.1.frames ++ held es) q.frames (held es)) (same_some e.1 p is)
+            (parts_front ps e.1.frames (held es) out)
+        | false ↦ λ is. parts_after ps e.1.frames (held es) p.frames (held (remove_entry t es)) out
+            (removed_parts ps es p is (parts_front ps e.1.frames (held es) out).left_out)
       ] h
 
 pub promoted_some : (t : ℕ → Bool) (es : Entries) (p : PagedState) → lookup t es ≡ Some p → (k : ℕ) × (promoted t es ≡ (k, p) ∷ remove_entry t es)
@@ -90,7 +100,8 @@ length-remove t (e ∷ es) p h =
     ] h
 
 -- an entry goes first
-pub promoted_out : (t : ℕ → Bool) (ps : Frames) (es : Entries) (p : PagedState) → lookup t es ≡ Some p → IsCached ps es → IsCached ps (promoted t es) × (length (held (promoted t es)) ≡ length (held es)) × (length (promoted t es) ≡ length es)
+pub promoted_out : (t : ℕ → Bool) (ps : Frames) (es : Entries) (p : PagedState) → lookup t es ≡ Some p → IsCached ps es
+    → IsCached ps (promoted t es) × (length (held (promoted t es)) ≡ length (held es)) × (length (promoted t es) ≡ length es)
 promoted_out t ps es p h out =
     let parts = removed_parts t ps es p h out in
     let is = promoted_some t es p h in
@@ -105,7 +116,8 @@ promoted_out t ps es p h out =
     )
 
 -- no further frames are held then
-pub promoted_within : (t : ℕ → Bool) (ps : Frames) (es : Entries) (o : Option PagedState) → lookup t es ≡ o → IsCached ps es → (k : ℕ) → IsAmong k (held (promoted t es)) → IsAmong k (held es)
+pub promoted_within : (t : ℕ → Bool) (ps : Frames) (es : Entries) (o : Option PagedState) → lookup t es ≡ o → IsCached ps es → (k : ℕ)
+    → IsAmong k (held (promoted t es)) → IsAmong k (held es)
 promoted_within t ps es None is out k h = subst (λ (x : Entries). IsAmong k (held x)) (promoted_none t es is) h
 promoted_within t ps es (Some p) is out k h =
     let parts = removed_parts t ps es p is out in
@@ -137,8 +149,11 @@ put_first es cap k p room =
           ∙ ap (λ (j : ℕ). (j, p) ∷ remove_entry (nat_eq k) es) (sym (eqb-true k e.0 e.2))
     ] refl
 
-pub put_bare : (c : LruCache ℕ PagedState) (k : ℕ) (p q : PagedState) → length c.entries < c.cap → p ≡ q → lru_cache (put_entries nat_eq c k p) c.cap ≡ lru_cache ((k, q) ∷ remove_entry (nat_eq k) c.entries) c.cap
-put_bare c k p q room same = ap (λ (es : Entries). lru_cache es c.cap) (put_first c.entries c.cap k p room ∙ ap (λ (r : PagedState). (k, r) ∷ remove_entry (nat_eq k) c.entries) same)
+pub put_bare : (c : LruCache ℕ PagedState) (k : ℕ) (p q : PagedState) → length c.entries < c.cap → p ≡ q
+    → lru_cache (put_entries nat_eq c k p) c.cap ≡ lru_cache ((k, q) ∷ remove_entry (nat_eq k) c.entries) c.cap
+put_bare c k p q room same =
+    ap (λ (es : Entries). lru_cache es c.cap)
+    (put_first c.entries c.cap k p room ∙ ap (λ (r : PagedState). (k, r) ∷ remove_entry (nat_eq k) c.entries) same)
 
 pub length-held_remove : (t : ℕ → Bool) (es : Entries) → length (held (remove_entry t es)) ≤ length (held es)
 length-held_remove t [] = omega arith

@@ -9,14 +9,16 @@ use Rattle.state_cache.proofs.Listed.{same_some}
 use Rattle.state_cache.proofs.Releasing.{Parts, parts_front, parts_after, released_part, released_none, released_then, no_more_than_out}
 
 -- the frames of the last entry, and those of the others
-last_at : (ps : Frames) (n : ℕ) (es : Entries) (e : ℕ × PagedState) → length es ≡ suc n → slice_get es n ≡ Some e → IsCached ps es → Parts ps (held es) e.1.frames (held (take n es))
+last_at : (ps : Frames) (n : ℕ) (es : Entries) (e : ℕ × PagedState) → length es ≡ suc n → slice_get es n ≡ Some e → IsCached ps es
+    → Parts ps (held es) e.1.frames (held (take n es))
 last_at ps n [] e size is out = absurd (omega (arith, size))
 last_at ps zero (x ∷ []) e size is out =
     let same = same_some x e is in
     subst (λ (y : ℕ × PagedState). Parts ps (x.1.frames ++ []) y.1.frames []) same (parts_front ps x.1.frames [] out)
 last_at ps zero (x ∷ y ∷ ys) e size is out = absurd (omega (arith, size))
 last_at ps (suc n) (x ∷ xs) e size is out =
-    parts_after ps x.1.frames (held xs) e.1.frames (held (take n xs)) out (last_at ps n xs e (omega (arith, size)) is (parts_front ps x.1.frames (held xs) out).left_out)
+    parts_after ps x.1.frames (held xs) e.1.frames (held (take n xs)) out
+    (last_at ps n xs e (omega (arith, size)) is (parts_front ps x.1.frames (held xs) out).left_out)
 
 none_last : (es : Entries) (n : ℕ) → n < length es → slice_get es n ≡ None → ⊥
 none_last [] n h is = omega (arith, h)
@@ -49,7 +51,8 @@ pub record Popping (start now : Frames) (old left : Entries) (count : ℕ) (fits
   pub counted : count ≡ length (held left)
   pub no_more : length left < length old → ¬ fits (suc (length left)) (length (held (take (suc (length left)) old)))
 
-pub none_popped : (start : Frames) (old : Entries) (count : ℕ) (fits : ℕ → ℕ → Type 0) → IsCached start old → count ≡ length (held old) → Popping start start old old count fits
+pub none_popped : (start : Frames) (old : Entries) (count : ℕ) (fits : ℕ → ℕ → Type 0) → IsCached start old → count ≡ length (held old)
+    → Popping start start old old count fits
 none_popped start old count fits out counted = record {
   first = sym (take_all (length old) old (omega arith));
   released = released_none start (held old) out;
@@ -57,7 +60,8 @@ none_popped start old count fits out counted = record {
   no_more = λ h. absurd (omega (arith, h));
 }
 
-module _ (start now next : Frames) (old left : Entries) (count count' : ℕ) (fits : ℕ → ℕ → Type 0) (e : ℕ × PagedState) (popping : Popping start now old left count fits) (last : slice_get left (length left - 1) ≡ Some e) where
+module _ (start now next : Frames) (old left : Entries) (count count' : ℕ) (fits : ℕ → ℕ → Type 0) (e : ℕ × PagedState)
+    (popping : Popping start now old left count fits) (last : slice_get left (length left - 1) ≡ Some e) where
   some : 0 < length left
   some = one_left left e last
 
@@ -67,7 +71,9 @@ module _ (start now next : Frames) (old left : Entries) (count count' : ℕ) (fi
   pub enough : length e.1.frames ≤ count
   enough = let s = parts.size in let c = popping.counted in omega (arith, s, c)
 
-  module _ (free : AreFree next e.1.frames) (others : KeepsOthers now next e.1.frames) (outs : out_of next + length e.1.frames ≡ out_of now) (room : free_of next ≡ free_of now + length e.1.frames) (not : ¬ fits (length left) (length (held left))) (count_is : count' ≡ count - length e.1.frames) where
+  module _ (free : AreFree next e.1.frames) (others : KeepsOthers now next e.1.frames) (outs : out_of next + length e.1.frames ≡ out_of now)
+      (room : free_of next ≡ free_of now + length e.1.frames) (not : ¬ fits (length left) (length (held left)))
+      (count_is : count' ≡ count - length e.1.frames) where
     abbrev rest : Entries
     rest = take (length left - 1) left
 
@@ -82,10 +88,13 @@ module _ (start now next : Frames) (old left : Entries) (count count' : ℕ) (fi
 
     pub one_popped : Popping start next old rest count' fits
     one_popped = record {
-      first = ap (λ (es : Entries). take (length left - 1) es) popping.first ∙ take-take (length left - 1) (length left) old (omega arith) ∙ ap (λ (n : ℕ). take n old) (sym size);
-      released = released_then start now next (held old) (held left) (held rest) popping.released (released_part now next (held left) e.1.frames (held rest) parts free others outs room);
+      first = ap (λ (es : Entries). take (length left - 1) es) popping.first ∙ take-take (length left - 1) (length left) old (omega arith)
+          ∙ ap (λ (n : ℕ). take n old) (sym size);
+      released = released_then start now next (held old) (held left) (held rest) popping.released
+          (released_part now next (held left) e.1.frames (held rest) parts free others outs room);
       counted = let s = parts.size in let c = popping.counted in omega (arith, s, c, count_is);
-      no_more = λ _ h. not (subst (λ (n : ℕ). fits n (length (held left))) back (subst (λ (es : Entries). fits (suc (length rest)) (length (held es))) again h));
+      no_more = λ _ h. not (subst (λ (n : ℕ). fits n (length (held left))) back
+          (subst (λ (es : Entries). fits (suc (length rest)) (length (held es))) again h));
     }
 
 pub keeps : (start now : Frames) (old left : Entries) (count : ℕ) (fits : ℕ → ℕ → Type 0) → Popping start now old left count fits → Keeps fits old left
@@ -95,11 +104,14 @@ pub none_same : (es : Entries) → es ≡ [] → take (length es - 1) es ≡ es
 none_same es is = ap (λ (xs : Entries). take (length xs - 1) xs) is ∙ sym is
 
 -- what the test of the limits says
-module _ (start now : Frames) (old left : Entries) (frames count most_entries most_frames needed out : ℕ) (out_start : IsCached start old) (frames_is : frames ≡ length (held old)) (popping : Popping start now old left count (Fits most_entries most_frames (out_of start - frames) needed)) (out_is : out ≡ out_of now) where
+module _ (start now : Frames) (old left : Entries) (frames count most_entries most_frames needed out : ℕ) (out_start : IsCached start old)
+    (frames_is : frames ≡ length (held old))
+    (popping : Popping start now old left count (Fits most_entries most_frames (out_of start - frames) needed)) (out_is : out ≡ out_of now) where
   others : out_of now ≡ (out_of start - frames) + length (held left)
   others = let n = no_more_than_out start (held old) out_start in let o = popping.released.outs in omega (arith, n, o, frames_is)
 
-  pub not_fits : (length left ≤ most_entries → count + needed ≤ most_frames → pool_limit < out + needed) → ¬ Fits most_entries most_frames (out_of start - frames) needed (length left) (length (held left))
+  pub not_fits : (length left ≤ most_entries → count + needed ≤ most_frames → pool_limit < out + needed)
+      → ¬ Fits most_entries most_frames (out_of start - frames) needed (length left) (length (held left))
   not_fits past fits =
       let o = others in
       let c = popping.counted in
@@ -109,8 +121,10 @@ module _ (start now : Frames) (old left : Entries) (frames count most_entries mo
       let h = past e (omega (arith, c, f)) in
       omega (arith, o, g, h, out_is)
 
-  pub fits_now : length left ≤ most_entries → count + needed ≤ most_frames → out + needed ≤ pool_limit → Fits most_entries most_frames (out_of start - frames) needed (length left) count
-  fits_now few small enough = record { entries_fit = few; frames_fit = small; out_fits = let o = others in let c = popping.counted in omega (arith, o, c, enough, out_is) }
+  pub fits_now : length left ≤ most_entries → count + needed ≤ most_frames → out + needed ≤ pool_limit
+      → Fits most_entries most_frames (out_of start - frames) needed (length left) count
+  fits_now few small enough =
+      record { entries_fit = few; frames_fit = small; out_fits = let o = others in let c = popping.counted in omega (arith, o, c, enough, out_is) }
 
   pub few_held : out ≤ pool_limit → count ≤ pool_limit
   few_held limit = let n = no_more_than_out now (held left) popping.released.out in let c = popping.counted in omega (arith, n, c, limit, out_is)

@@ -24,7 +24,8 @@ no_more_than_out ps [] out = omega arith
 no_more_than_out ps (f ∷ fs) out =
     let less = (emptied ps f out.0.bytes out.0.is).0 in
     let change = changed ps f None (is_within ps f out.0.bytes out.0.is) in
-    let rest = no_more_than_out (set ps f None) fs (all_kept ps (set ps f None) fs (λ k h. change.others k (λ same. out.1 (subst (λ (j : ℕ). IsAmong j fs) same h))) out.2) in
+    let rest = no_more_than_out (set ps f None) fs
+    (all_kept ps (set ps f None) fs (λ k h. change.others k (λ same. out.1 (subst (λ (j : ℕ). IsAmong j fs) same h))) out.2) in
     omega (arith, less, rest)
 
 -- frames that are out, each once, in two parts
@@ -48,7 +49,8 @@ parts_front ps part left out = record {
   size = length-append part left;
 }
 
-pub parts_after : (ps : Frames) (front all part left : List ℕ) → AreOut ps (front ++ all) → Parts ps all part left → Parts ps (front ++ all) part (front ++ left)
+pub parts_after : (ps : Frames) (front all part left : List ℕ) → AreOut ps (front ++ all) → Parts ps all part left
+    → Parts ps (front ++ all) part (front ++ left)
 parts_after ps front all part left out parts = record {
   part_out = parts.part_out;
   left_out = out_append ps front left (out_front ps front all out) parts.left_out (λ k h g. out_apart ps front all out k h (parts.left_in k g));
@@ -69,7 +71,8 @@ parts_after ps front all part left out parts = record {
 }
 
 -- a part is given back
-pub released_part : (ps qs : Frames) (all part left : List ℕ) → Parts ps all part left → AreFree qs part → KeepsOthers ps qs part → out_of qs + length part ≡ out_of ps → free_of qs ≡ free_of ps + length part → Released ps qs all left
+pub released_part : (ps qs : Frames) (all part left : List ℕ) → Parts ps all part left → AreFree qs part → KeepsOthers ps qs part
+    → out_of qs + length part ≡ out_of ps → free_of qs ≡ free_of ps + length part → Released ps qs all left
 released_part ps qs all part left parts free others outs room = record {
   out = all_kept ps qs left kept parts.left_out;
   within = parts.left_in;

@@ -1,12 +1,14 @@
 -- What a store and a yield leave.
-use Rattle.std.proofs.Common.{◌≡◌, ◌⊎◌, inl, inr, ℕ, zero, suc, ◌+◌, ◌-◌, ◌<◌, ◌≤◌, List, [], ◌∷◌, length, take, drop, min, ◌^◌, refl, sym, ap, subst, ◌∙◌, arith, length-append}
+use Rattle.std.proofs.Common.{◌≡◌, ◌⊎◌, inl, inr, ℕ, zero, suc, ◌+◌, ◌-◌, ◌<◌, ◌≤◌, List, [], ◌∷◌, length, take, drop, min, ◌^◌, refl, sym, ap, subst}
+use Rattle.std.proofs.Common.{◌∙◌, arith, length-append}
 use Rattle.std.specs.Prelude.{nat_eq, Option, None, Some}
 use Rattle.std.specs.Map.{remove_entry}
 use Rattle.std.proofs.lemmas.List.{length-take}
 use Rattle.page_pool.specs.Frames.{Frames, frame_at, out_of, free_of, SameFrames, pool_limit}
 use Rattle.page_pool.specs.Paged.{PagedState, IsAmong, AreFree, KeepsOthers, HoldsBytes, frames_for}
 use Rattle.page_pool.proofs.Among.{among_split, all_kept, out_append, out_each, out_not_free}
-use Rattle.state_cache.specs.Entries.{Entries, held, IsCached, IsFirst, KeepsApart, Released, Keeps, Fits, IsStored, IsYielded, most_entry_bytes, most_frames_held, most_held}
+use Rattle.state_cache.specs.Entries.{Entries, held, IsCached, IsFirst, KeepsApart, Released, Keeps, Fits, IsStored, IsYielded, most_entry_bytes}
+use Rattle.state_cache.specs.Entries.{most_frames_held, most_held}
 use Rattle.state_cache.proofs.Listed.{stands_kept, length-held_remove}
 use Rattle.state_cache.proofs.Releasing.{no_more_than_out}
 use Rattle.state_cache.proofs.Popping.{length-held_take}
@@ -26,9 +28,13 @@ pub record Room (others needed version : ℕ) (removed kept : Entries) : Type 0 
   pub fits : Fits most_held most_frames_held others needed (length rest + 1) (length (held rest))
 
 fits_at : (others needed n m f g : ℕ) → n ≡ m → f ≡ g → Fits most_held most_frames_held others needed n f → Fits most_held most_frames_held others needed m g
-fits_at others needed n m f g same alike fits = subst (λ (k : ℕ). Fits most_held most_frames_held others needed k g) same (subst (λ (k : ℕ). Fits most_held most_frames_held others needed n k) alike fits)
+fits_at others needed n m f g same alike fits =
+    subst (λ (k : ℕ). Fits most_held most_frames_held others needed k g) same
+    (subst (λ (k : ℕ). Fits most_held most_frames_held others needed n k) alike fits)
 
-pub room_of : (others needed version result : ℕ) (removed kept : Entries) → others ≤ most_frames_held → needed ≤ 2048 → Keeps (Fits most_held most_frames_held others needed) ((version, bare) ∷ removed) kept → result ≡ length (held kept) → Fits most_held most_frames_held others needed (length kept) result ⊎ (kept ≡ []) → Room others needed version removed kept
+pub room_of : (others needed version result : ℕ) (removed kept : Entries) → others ≤ most_frames_held → needed ≤ 2048
+    → Keeps (Fits most_held most_frames_held others needed) ((version, bare) ∷ removed) kept → result ≡ length (held kept)
+    → Fits most_held most_frames_held others needed (length kept) result ⊎ (kept ≡ []) → Room others needed version removed kept
 room_of others needed version result removed kept few small keeps counted fits = at keeps.count keeps.first keeps.no_more
   where
     one : Fits most_held most_frames_held others needed 1 0
@@ -37,7 +43,10 @@ room_of others needed version result removed kept few small keeps counted fits =
     not_empty : (xs : Entries) (x : ℕ × PagedState) → kept ≡ x ∷ xs → kept ≡ [] → ⊥
     not_empty xs x is none = cc
 
-    at : (n : ℕ) → kept ≡ take n ((version, bare) ∷ removed) → (n < length ((version, bare) ∷ removed) → ¬ Fits most_held most_frames_held others needed (suc n) (length (held (take (suc n) ((version, bare) ∷ removed))))) → Room others needed version removed kept
+    at : (n : ℕ) → kept ≡ take n ((version, bare) ∷ removed)
+        → (n < length ((version, bare) ∷ removed)
+        → ¬ Fits most_held most_frames_held others needed (suc n) (length (held (take (suc n) ((version, bare) ∷ removed)))))
+        → Room others needed version removed kept
     at zero is more = absurd (more (omega arith) one)
     at (suc j) is more = record {
       rest = take j removed;
@@ -45,17 +54,24 @@ room_of others needed version result removed kept few small keeps counted fits =
       keeps = record {
         count = j;
         first = refl;
-        no_more = λ h fit. let e : suc j + 1 ≡ suc (suc j) = omega arith in more (omega (arith, h)) (fits_at others needed (suc j + 1) (suc (suc j)) (length (held (take (suc j) removed))) (length (held (take (suc j) removed))) e refl fit);
+        no_more = λ h fit. let e : suc j + 1 ≡ suc (suc j) = omega arith
+            in more (omega (arith, h))
+            (fits_at others needed (suc j + 1) (suc (suc j)) (length (held (take (suc j) removed))) (length (held (take (suc j) removed))) e refl fit);
       };
       fits = elim fits [
-        | inl fit ↦ fits_at others needed (length kept) (length (take j removed) + 1) result (length (held (take j removed))) (let l = ap (λ (es : Entries). length es) is in omega (arith, l)) (counted ∙ ap (λ (es : Entries). length (held es)) is) fit
+        | inl fit ↦ fits_at others needed (length kept) (length (take j removed) + 1) result (length (held (take j removed)))
+            (let l = ap (λ (es : Entries). length es) is in omega (arith, l)) (counted ∙ ap (λ (es : Entries). length (held es)) is) fit
         | inr none ↦ absurd (not_empty (take j removed) (version, bare) is none)
       ];
     }
 
-module _ (p0 p1 p2 p3 : Frames) (old kept : Entries) (version needed frames result : ℕ) (cached : IsCached p0 old) (few : out_of p0 ≤ most_frames_held + length (held old)) (small : needed ≤ 2048) (same : SameFrames p0 p1) (out1 : out_of p1 ≡ out_of p0)
+module _ (p0 p1 p2 p3 : Frames) (old kept : Entries) (version needed frames result : ℕ) (cached : IsCached p0 old)
+    (few : out_of p0 ≤ most_frames_held + length (held old)) (small : needed ≤ 2048) (same : SameFrames p0 p1) (out1 : out_of p1 ≡ out_of p0)
     (given : Released p1 p2 (held old) (held (remove_entry (nat_eq version) old))) (frames_is : frames ≡ length (held (remove_entry (nat_eq version) old)))
-    (evicted : Released p2 p3 (held (remove_entry (nat_eq version) old)) (held kept)) (keeps : Keeps (Fits most_held most_frames_held (out_of p2 - frames) needed) ((version, bare) ∷ remove_entry (nat_eq version) old) kept) (counted : result ≡ length (held kept)) (fits : Fits most_held most_frames_held (out_of p2 - frames) needed (length kept) result ⊎ (kept ≡ [])) where
+    (evicted : Released p2 p3 (held (remove_entry (nat_eq version) old)) (held kept))
+    (keeps : Keeps (Fits most_held most_frames_held (out_of p2 - frames) needed) ((version, bare) ∷ remove_entry (nat_eq version) old) kept)
+    (counted : result ≡ length (held kept))
+    (fits : Fits most_held most_frames_held (out_of p2 - frames) needed (length kept) result ⊎ (kept ≡ [])) where
   abbrev removed : Entries
   removed = remove_entry (nat_eq version) old
 
@@ -87,7 +103,8 @@ module _ (p0 p1 p2 p3 : Frames) (old kept : Entries) (version needed frames resu
       omega (arith, e, n, frames_is)
 
   -- the frames that were reserved are enough
-  pub enough : (possible out free : ℕ) → out ≡ out_of p0 → out ≤ pool_limit → possible ≡ min needed (pool_limit - out) → possible ≤ free_of p1 → needed ≤ free_of p3
+  pub enough : (possible out free : ℕ) → out ≡ out_of p0 → out ≤ pool_limit → possible ≡ min needed (pool_limit - out) → possible ≤ free_of p1
+      → needed ≤ free_of p3
   enough possible out free is limit possible_is freed =
       let o = out_is in
       let f = room.fits.out_fits in
@@ -99,7 +116,8 @@ module _ (p0 p1 p2 p3 : Frames) (old kept : Entries) (version needed frames resu
       let h = others_is in
       omega (arith, o, f, a, b, is, limit, possible_is, freed, out1, r, l, k, h)
 
-  module _ (p4 : Frames) (bytes : List ℕ) (paged : PagedState) (needed_is : needed ≡ frames_for (length bytes)) (holds : HoldsBytes p4 paged bytes) (fresh : AreFree p3 paged.frames) (apart : KeepsOthers p3 p4 paged.frames) (outs : out_of p4 ≡ out_of p3 + frames_for (length bytes)) where
+  module _ (p4 : Frames) (bytes : List ℕ) (paged : PagedState) (needed_is : needed ≡ frames_for (length bytes)) (holds : HoldsBytes p4 paged bytes)
+      (fresh : AreFree p3 paged.frames) (apart : KeepsOthers p3 p4 paged.frames) (outs : out_of p4 ≡ out_of p3 + frames_for (length bytes)) where
     abbrev new : Entries
     new = (version, paged) ∷ room.rest
 
@@ -148,7 +166,11 @@ module _ (p0 p1 p2 p3 : Frames) (old kept : Entries) (version needed frames resu
     }
 
 -- what a yield leaves
-module _ (before after : Frames) (old new : Entries) (frames result needed : ℕ) (cached : IsCached before old) (few : length old ≤ most_held) (small : frames ≤ most_frames_held) (low : needed < 2 ^ 32) (frames_is : frames ≡ length (held old)) (released : Released before after (held old) (held new)) (counted : result ≡ length (held new)) (keeps : Keeps (Fits most_held 8589934592 (out_of before - frames) needed) old new) (fits : Fits most_held 8589934592 (out_of before - frames) needed (length new) result ⊎ (new ≡ [])) where
+module _ (before after : Frames) (old new : Entries) (frames result needed : ℕ) (cached : IsCached before old) (few : length old ≤ most_held)
+    (small : frames ≤ most_frames_held) (low : needed < 2 ^ 32) (frames_is : frames ≡ length (held old))
+    (released : Released before after (held old) (held new)) (counted : result ≡ length (held new))
+    (keeps : Keeps (Fits most_held 8589934592 (out_of before - frames) needed) old new)
+    (fits : Fits most_held 8589934592 (out_of before - frames) needed (length new) result ⊎ (new ≡ [])) where
   yields_before : out_of before ≡ (out_of before - frames) + length (held old)
   yields_before = let n = no_more_than_out before (held old) cached in omega (arith, n, frames_is)
 
@@ -183,12 +205,18 @@ module _ (before after : Frames) (old new : Entries) (frames result needed : ℕ
   yielded_few = let l = length-take keeps.count old in let f = ap (λ (es : Entries). length es) keeps.first in omega (arith, l, f, few)
 
   pub yielded_small : result ≤ most_frames_held
-  yielded_small = let l = length-held_take keeps.count old in let f = ap (λ (es : Entries). length (held es)) keeps.first in omega (arith, l, f, counted, small, frames_is)
+  yielded_small = let l = length-held_take keeps.count old in let f = ap (λ (es : Entries). length (held es)) keeps.first
+      in omega (arith, l, f, counted, small, frames_is)
 
 -- a store, call by call
-module _ (p0 p1 p2 p3 : Frames) (old0 old e2 e3 : Entries) (version needed count given result size : ℕ) (view : old ≡ old0) (cached : IsCached p0 old0) (few : out_of p0 ≤ most_frames_held + length (held old0)) (needed_is : needed ≡ frames_for size) (short : size ≤ most_entry_bytes) (same : SameFrames p0 p1) (out1 : out_of p1 ≡ out_of p0)
-    (counted : count ≡ length (held old)) (released : Released p1 p2 (held old) (held (remove_entry (nat_eq version) old))) (given_is : given + length (held (remove_entry (nat_eq version) old)) ≡ length (held old))
-    (e2_is : e2 ≡ (version, bare) ∷ remove_entry (nat_eq version) old) (evicted : Released p2 p3 (held e2) (held e3)) (keeps : Keeps (Fits most_held most_frames_held (out_of p2 - (count - given)) needed) e2 e3) (result_is : result ≡ length (held e3)) (fits : Fits most_held most_frames_held (out_of p2 - (count - given)) needed (length e3) result ⊎ (e3 ≡ [])) where
+module _ (p0 p1 p2 p3 : Frames) (old0 old e2 e3 : Entries) (version needed count given result size : ℕ) (view : old ≡ old0)
+    (cached : IsCached p0 old0) (few : out_of p0 ≤ most_frames_held + length (held old0)) (needed_is : needed ≡ frames_for size)
+    (short : size ≤ most_entry_bytes) (same : SameFrames p0 p1) (out1 : out_of p1 ≡ out_of p0)
+    (counted : count ≡ length (held old)) (released : Released p1 p2 (held old) (held (remove_entry (nat_eq version) old)))
+    (given_is : given + length (held (remove_entry (nat_eq version) old)) ≡ length (held old))
+    (e2_is : e2 ≡ (version, bare) ∷ remove_entry (nat_eq version) old) (evicted : Released p2 p3 (held e2) (held e3))
+    (keeps : Keeps (Fits most_held most_frames_held (out_of p2 - (count - given)) needed) e2 e3) (result_is : result ≡ length (held e3))
+    (fits : Fits most_held most_frames_held (out_of p2 - (count - given)) needed (length e3) result ⊎ (e3 ≡ [])) where
   pub cached_old : IsCached p0 old
   cached_old = subst (λ (es : Entries). IsCached p0 es) (sym view) cached
 
@@ -208,17 +236,23 @@ module _ (p0 p1 p2 p3 : Frames) (old0 old e2 e3 : Entries) (version needed count
   keeps_old = subst (λ (es : Entries). Keeps (Fits most_held most_frames_held (out_of p2 - (count - given)) needed) es e3) e2_is keeps
 
   abbrev pub store_room : Room (out_of p2 - (count - given)) needed version (remove_entry (nat_eq version) old) e3
-  store_room = room p0 p1 p2 p3 old e3 version needed (count - given) result cached_old few_old small same out1 released left_is evicted_old keeps_old result_is fits
+  store_room = room p0 p1 p2 p3 old e3 version needed
+      (count - given) result cached_old few_old small same out1 released left_is evicted_old keeps_old result_is fits
 
-  pub store_enough : (possible out : ℕ) → out ≡ out_of p0 → out ≤ pool_limit → possible ≡ min needed (pool_limit - out) → possible ≤ free_of p1 → frames_for size ≤ free_of p3
+  pub store_enough : (possible out : ℕ) → out ≡ out_of p0 → out ≤ pool_limit → possible ≡ min needed (pool_limit - out) → possible ≤ free_of p1
+      → frames_for size ≤ free_of p3
   store_enough possible out is limit possible_is freed =
-      let e = enough p0 p1 p2 p3 old e3 version needed (count - given) result cached_old few_old small same out1 released left_is evicted_old keeps_old result_is fits possible out 0 is limit possible_is freed in
+      let e = enough p0 p1 p2 p3 old e3 version needed
+      (count - given) result cached_old few_old small same out1 released left_is evicted_old keeps_old result_is fits possible out 0 is limit
+      possible_is freed in
       omega (arith, e, needed_is)
 
   pub store_first : IsFirst version e3
   store_first = subst (λ (es : Entries). IsFirst version es) (sym store_room.is) refl
 
-  module _ (p4 : Frames) (bytes : List ℕ) (paged : PagedState) (new : Entries) (size_is : size ≡ length bytes) (holds : HoldsBytes p4 paged bytes) (fresh : AreFree p3 paged.frames) (apart : KeepsOthers p3 p4 paged.frames) (outs : out_of p4 ≡ out_of p3 + frames_for (length bytes)) (new_is : new ≡ (version, paged) ∷ drop 1 e3) where
+  module _ (p4 : Frames) (bytes : List ℕ) (paged : PagedState) (new : Entries) (size_is : size ≡ length bytes) (holds : HoldsBytes p4 paged bytes)
+      (fresh : AreFree p3 paged.frames) (apart : KeepsOthers p3 p4 paged.frames) (outs : out_of p4 ≡ out_of p3 + frames_for (length bytes))
+      (new_is : new ≡ (version, paged) ∷ drop 1 e3) where
     needs : needed ≡ frames_for (length bytes)
     needs = needed_is ∙ ap (λ (n : ℕ). frames_for n) size_is
 
@@ -227,32 +261,44 @@ module _ (p0 p1 p2 p3 : Frames) (old0 old e2 e3 : Entries) (version needed count
 
     pub store_stored : IsStored p0 p4 version bytes old0 new
     store_stored = subst (λ (es : Entries). IsStored p0 p4 version bytes es new) view (subst (λ (es : Entries). IsStored p0 p4 version bytes old es) (sym final)
-        (is_stored p0 p1 p2 p3 old e3 version needed (count - given) result cached_old few_old small same out1 released left_is evicted_old keeps_old result_is fits p4 bytes paged needs holds fresh apart outs))
+        (is_stored p0 p1 p2 p3 old e3 version needed
+        (count - given) result cached_old few_old small same out1 released left_is evicted_old keeps_old result_is fits p4 bytes paged needs holds
+        fresh apart outs))
 
     pub store_cached : IsCached p4 new
     store_cached = subst (λ (es : Entries). IsCached p4 es) (sym final)
-        (new_cached p0 p1 p2 p3 old e3 version needed (count - given) result cached_old few_old small same out1 released left_is evicted_old keeps_old result_is fits p4 bytes paged needs holds fresh apart outs)
+        (new_cached p0 p1 p2 p3 old e3 version needed
+        (count - given) result cached_old few_old small same out1 released left_is evicted_old keeps_old result_is fits p4 bytes paged needs holds
+        fresh apart outs)
 
     pub store_apart : KeepsApart p0 p4 old0 new
     store_apart = subst (λ (es : Entries). KeepsApart p0 p4 es new) view (subst (λ (es : Entries). KeepsApart p0 p4 old es) (sym final)
-        (new_apart p0 p1 p2 p3 old e3 version needed (count - given) result cached_old few_old small same out1 released left_is evicted_old keeps_old result_is fits p4 bytes paged needs holds fresh apart outs))
+        (new_apart p0 p1 p2 p3 old e3 version needed
+        (count - given) result cached_old few_old small same out1 released left_is evicted_old keeps_old result_is fits p4 bytes paged needs holds
+        fresh apart outs))
 
     pub store_counted : result + needed ≡ length (held new)
     store_counted =
-        let n = new_counted p0 p1 p2 p3 old e3 version needed (count - given) result cached_old few_old small same out1 released left_is evicted_old keeps_old result_is fits p4 bytes paged needs holds fresh apart outs in
+        let n = new_counted p0 p1 p2 p3 old e3 version needed
+        (count - given) result cached_old few_old small same out1 released left_is evicted_old keeps_old result_is fits p4 bytes paged needs holds
+        fresh apart outs in
         let f = ap (λ (es : Entries). length (held es)) final in
         let r = ap (λ (es : Entries). length (held es)) store_room.is in
         omega (arith, n, f, r, result_is)
 
     pub store_few : length new ≤ most_held
     store_few =
-        let n = new_few p0 p1 p2 p3 old e3 version needed (count - given) result cached_old few_old small same out1 released left_is evicted_old keeps_old result_is fits p4 bytes paged needs holds fresh apart outs in
+        let n = new_few p0 p1 p2 p3 old e3 version needed
+        (count - given) result cached_old few_old small same out1 released left_is evicted_old keeps_old result_is fits p4 bytes paged needs holds
+        fresh apart outs in
         let f = ap (λ (es : Entries). length es) final in
         omega (arith, n, f)
 
     pub store_small : result + needed ≤ most_frames_held
     store_small =
-        let n = new_small p0 p1 p2 p3 old e3 version needed (count - given) result cached_old few_old small same out1 released left_is evicted_old keeps_old result_is fits p4 bytes paged needs holds fresh apart outs in
+        let n = new_small p0 p1 p2 p3 old e3 version needed
+        (count - given) result cached_old few_old small same out1 released left_is evicted_old keeps_old result_is fits p4 bytes paged needs holds
+        fresh apart outs in
         let f = ap (λ (es : Entries). length (held es)) final in
         let c = store_counted in
         omega (arith, n, f, c)

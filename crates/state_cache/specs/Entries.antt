@@ -41,7 +41,8 @@ IsFirst version (e ∷ entries) = e.0 ≡ version
 
 -- each frame that is out and that the cache doesn't hold stays out, with its bytes, and the cache doesn't hold it then
 abbrev pub KeepsApart : Frames → Frames → Entries → Entries → Type 0
-KeepsApart before after old new = (k : ℕ) (bytes : List ℕ) → ¬ IsAmong k (held old) → frame_at before k ≡ Some bytes → (¬ IsAmong k (held new)) × (frame_at after k ≡ Some bytes)
+KeepsApart before after old new = (k : ℕ) (bytes : List ℕ) → ¬ IsAmong k (held old) → frame_at before k ≡ Some bytes
+    → (¬ IsAmong k (held new)) × (frame_at after k ≡ Some bytes)
 
 -- those entries stay that were used last, as many as fit; fits says so of a number of entries and of their frames
 pub record Keeps (fits : ℕ → ℕ → Type 0) (old new : Entries) : Type 0 where
@@ -65,7 +66,8 @@ pub record IsStored (before after : Frames) (version : ℕ) (bytes : List ℕ) (
   pub others : ℕ
   pub out_before : out_of before ≡ others + length (held old)
   pub out_after : out_of after ≡ others + length (held new)
-  pub kept : Keeps (λ entries frames. Fits most_held most_frames_held others (frames_for (length bytes)) (entries + 1) frames) (remove_entry (nat_eq version) old) rest
+  pub kept : Keeps (λ entries frames. Fits most_held most_frames_held others (frames_for (length bytes)) (entries + 1) frames)
+      (remove_entry (nat_eq version) old) rest
   pub room : Fits most_held most_frames_held others (frames_for (length bytes)) (length rest + 1) (length (held rest))
   pub same : stands after rest ≡ stands before rest
 

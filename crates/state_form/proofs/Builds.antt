@@ -58,7 +58,8 @@ put_given s None is = tt
 put_given s (Some []) is = tt
 put_given s (Some (v ∷ vs)) is = ((is.0, (is.1.0, (tt, is.1.1.0))), tt)
 
-inserts_given : (e : IdBytes) (f n : ℕ) (vs : List Value) → n + length vs ≤ most_entries → IsIdText e → IsU32 f → AllByRecursion IsValue vs → AllByRecursion IsStep (inserts e f n vs)
+inserts_given : (e : IdBytes) (f n : ℕ) (vs : List Value) → n + length vs ≤ most_entries → IsIdText e → IsU32 f → AllByRecursion IsValue vs
+    → AllByRecursion IsStep (inserts e f n vs)
 inserts_given e f n [] few id small all = tt
 inserts_given e f n (v ∷ vs) few id small all = ((id, (small, (omega (arith, few), all.0))), inserts_given e f (n + 1) vs (omega (arith, few)) id small all.1)
 
@@ -79,7 +80,8 @@ few : (meta : Meta) (c : Option ℕ) (f : ℕ) (vs : List Value) → AttrOk meta
 few meta None f vs ok = absurd ok
 few meta (Some c) f vs ok = few_values meta (kind_of meta f) (upper_of meta f) vs ok.1
 
-all_inserts : (meta : Meta) (c : Option ℕ) (s : AttrKey) (o : Option (List Value)) → AttrOk meta c s.1 o → IsGiven (AreValues s) o → AllByRecursion IsStep (inserts s.0 s.1 0 (values_of o))
+all_inserts : (meta : Meta) (c : Option ℕ) (s : AttrKey) (o : Option (List Value)) → AttrOk meta c s.1 o → IsGiven (AreValues s) o
+    → AllByRecursion IsStep (inserts s.0 s.1 0 (values_of o))
 all_inserts meta c s None ok is = tt
 all_inserts meta c s (Some vs) ok is = let size = few meta c s.1 vs ok in inserts_given s.0 s.1 0 vs (omega (arith, size)) is.0 is.1.0 is.1.1
 
@@ -96,16 +98,20 @@ module _ (meta : Meta) (row : Rows) (spelled : Each (IsRow meta) row) where
       by None is = omega arith
       by (Some rank) is = is.1.1.1
 
-  link_given : (o : Option ℕ) (a : IdBytes) (f : ℕ) (rank : ℕ) (b : IdBytes) → is_less f o ≡ true → opposite_of meta f ≡ o → IsRow meta (a, f, b) rank → IsStep (link_step o a f rank b (mirror_rank row o a b))
-  link_given None a f rank b first is of_row = (of_row.0, (of_row.1.0 (subst (λ (o : Option ℕ). is_less f o ≡ true) (sym is) first), (of_row.1.1.1, (of_row.1.1.0, tt))))
+  link_given : (o : Option ℕ) (a : IdBytes) (f : ℕ) (rank : ℕ) (b : IdBytes) → is_less f o ≡ true → opposite_of meta f ≡ o → IsRow meta (a, f, b) rank
+      → IsStep (link_step o a f rank b (mirror_rank row o a b))
+  link_given None a f rank b first is of_row =
+      (of_row.0, (of_row.1.0 (subst (λ (o : Option ℕ). is_less f o ≡ true) (sym is) first), (of_row.1.1.1, (of_row.1.1.0, tt))))
   link_given (Some g) a f rank b first is of_row =
-      step_chosen (nat_lt g f) (Link b g (mirror_rank row (Some g) a b) a (Some rank)) (Link a f rank b (Some (mirror_rank row (Some g) a b))) (leads_first f g first)
+      step_chosen (nat_lt g f) (Link b g (mirror_rank row (Some g) a b) a (Some rank)) (Link a f rank b (Some (mirror_rank row (Some g) a b)))
+      (leads_first f g first)
       (of_row.0, (of_row.1.0 (subst (λ (o : Option ℕ). is_less f o ≡ true) (sym is) first), (of_row.1.1.1, (of_row.1.1.0, mirror_given (Some g) a b))))
 
   row_at : (a : IdBytes) (f : ℕ) (b : IdBytes) (rank : ℕ) → get row (a, f, b) ≡ Some rank → IsRow meta (a, f, b) rank
   row_at a f b rank is = subst (λ (o : Option ℕ). IsGiven (IsRow meta (a, f, b)) o) is (spelled (a, f, b))
 
-  links_given : (o : Option ℕ) (a : IdBytes) (f : ℕ) (xs : List Entry) → is_less f o ≡ true → opposite_of meta f ≡ o → AllByRecursion (λ (x : Entry). get row (a, f, x.id) ≡ Some x.rank) xs → AllByRecursion IsStep (linked row o a f xs)
+  links_given : (o : Option ℕ) (a : IdBytes) (f : ℕ) (xs : List Entry) → is_less f o ≡ true → opposite_of meta f ≡ o
+      → AllByRecursion (λ (x : Entry). get row (a, f, x.id) ≡ Some x.rank) xs → AllByRecursion IsStep (linked row o a f xs)
   links_given o a f [] first is held = tt
   links_given o a f (x ∷ xs) first is held =
       both IsStep (linked row o a f xs) (link_step o a f x.rank x.id (mirror_rank row o a x.id) ∷ []) (links_given o a f xs first is held.1)

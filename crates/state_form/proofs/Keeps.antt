@@ -33,7 +33,8 @@ none_each : {K X : Type 0} (R : K → K → Ordering) (P : K → X → Type 0) �
 none_each R P k = subst (λ o. IsGiven (P k) o) (sym (get-empty R k)) tt
 
 -- an entry that is written has it, and the others have it still
-each_set : {K X : Type 0} {R : K → K → Ordering} (o : IsKeyOrder R) (P : K → X → Type 0) (m : FinMap R X) (k : K) (v : Option X) → Each P m → IsGiven (P k) v → Each P (set m k v)
+each_set : {K X : Type 0} {R : K → K → Ordering} (o : IsKeyOrder R) (P : K → X → Type 0) (m : FinMap R X) (k : K) (v : Option X) → Each P m
+    → IsGiven (P k) v → Each P (set m k v)
 each_set o P m k v all one q =
     by_key o (λ q. IsGiven (P q) (get (set m k v) q)) k q
     (subst (λ w. IsGiven (P k) w) (sym (get-set_same o m k v)) one)
@@ -82,7 +83,8 @@ single_given k (Some v) id f one = (id, (f, (one, tt)))
 
 -- ---- rows
 module _ (meta : Meta) (sound : Sound meta) where
-  row_given : (a : IdBytes) (f : ℕ) (b : IdBytes) (o : Option ℕ) → IsIdText a → LeadsSpelled meta f → IsIdText b → IsGiven IsU64 o → IsGiven (IsRow meta (a, f, b)) o
+  row_given : (a : IdBytes) (f : ℕ) (b : IdBytes) (o : Option ℕ) → IsIdText a → LeadsSpelled meta f → IsIdText b → IsGiven IsU64 o
+      → IsGiven (IsRow meta (a, f, b)) o
   row_given a f b None from feature to one = tt
   row_given a f b (Some rank) from feature to one = (from, (feature, (to, one)))
 
@@ -93,35 +95,66 @@ module _ (meta : Meta) (sound : Sound meta) where
       let under : g < f = ltb-true g f less in
       omega (arith, under, small)
 
-  mirror_given : (a : IdBytes) (f : ℕ) (b : IdBytes) (w : Option ℕ) (row : FinMap row_cmp ℕ) → Each (IsRow meta) row → IsIdText a → IsU32 f → IsIdText b → IsGiven IsU64 w
+  mirror_given : (a : IdBytes) (f : ℕ) (b : IdBytes) (w : Option ℕ) (row : FinMap row_cmp ℕ) → Each (IsRow meta) row → IsIdText a → IsU32 f
+      → IsIdText b → IsGiven IsU64 w
       → (o : Option ℕ) → opposite_of meta f ≡ o → Each (IsRow meta) (set_all row (mirror_write o a b w))
   mirror_given a f b w row all from small to one None is = all
-  mirror_given a f b w row all from small to one (Some g) is = each_set row_order (IsRow meta) row (b, g, a) w all (row_given b g a w to (mirror_leads f g is small) from one)
+  mirror_given a f b w row all from small to one (Some g) is =
+      each_set row_order (IsRow meta) row (b, g, a) w all (row_given b g a w to (mirror_leads f g is small) from one)
 
-  pair_given : (a : IdBytes) (f : ℕ) (b : IdBytes) (v w : Option ℕ) (row : FinMap row_cmp ℕ) → Each (IsRow meta) row → IsIdText a → IsU32 f → IsIdText b → IsGiven IsU64 v → IsGiven IsU64 w
+  pair_given : (a : IdBytes) (f : ℕ) (b : IdBytes) (v w : Option ℕ) (row : FinMap row_cmp ℕ) → Each (IsRow meta) row → IsIdText a → IsU32 f
+      → IsIdText b → IsGiven IsU64 v → IsGiven IsU64 w
       → Each (IsRow meta) (set_all (set row (a, f, b) v) (mirror_write (opposite_of meta f) a b w))
   pair_given a f b v w row all from small to first second =
-      mirror_given a f b w (set row (a, f, b) v) (each_set row_order (IsRow meta) row (a, f, b) v all (row_given a f b v from (λ leads. small) to first)) from small to second (opposite_of meta f) refl
+      mirror_given a f b w (set row (a, f, b) v)
+      (each_set row_order (IsRow meta) row (a, f, b) v all (row_given a f b v from (λ leads. small) to first)) from small to second
+      (opposite_of meta f) refl
 
   -- ---- steps
-  values_set : (m : State) (e : IdBytes) (f : ℕ) (o : Option (List Value)) → IsSpelled meta m → IsGiven (AreValues (e, f)) o → IsSpelled meta (record m { attr = set m.attr (e, f) o })
-  values_set m e f o is one = record { kinds = is.kinds; places = is.places; ranks = is.ranks; values = each_set attr_order AreValues m.attr (e, f) o is.values one; rows = is.rows }
+  values_set : (m : State) (e : IdBytes) (f : ℕ) (o : Option (List Value)) → IsSpelled meta m → IsGiven (AreValues (e, f)) o
+      → IsSpelled meta (record m { attr = set m.attr (e, f) o })
+  values_set m e f o is one =
+      record {
+        kinds = is.kinds;
+        places = is.places;
+        ranks = is.ranks;
+        values = each_set attr_order AreValues m.attr (e, f) o is.values one;
+        rows =
+            is.rows;
+      }
 
   step_keeps : (m : State) (s : Step) → IsStep s → IsSpelled meta m → IsSpelled meta (apply meta m s)
   step_keeps m (Put e f old new) s is = values_set m e f (single new) is (single_given (e, f) new s.0 s.1.0 s.1.1.1)
   step_keeps m (Ins e f at v) s is =
       values_set m e f (entry_of (insert (values_of (get m.attr (e, f))) at v)) is
-      (entry_given (e, f) (insert (values_of (get m.attr (e, f))) at v) s.0 s.1.0 (inserted (values_of (get m.attr (e, f))) at v (values_given (e, f) (get m.attr (e, f)) (is.values (e, f))) s.1.1.1))
+      (entry_given (e, f) (insert (values_of (get m.attr (e, f))) at v) s.0 s.1.0
+      (inserted (values_of (get m.attr (e, f))) at v (values_given (e, f) (get m.attr (e, f)) (is.values (e, f))) s.1.1.1))
   step_keeps m (Del e f at v) s is =
       values_set m e f (entry_of (remove (values_of (get m.attr (e, f))) at)) is
-      (entry_given (e, f) (remove (values_of (get m.attr (e, f))) at) s.0 s.1.0 (removed (values_of (get m.attr (e, f))) at (values_given (e, f) (get m.attr (e, f)) (is.values (e, f)))))
+      (entry_given (e, f) (remove (values_of (get m.attr (e, f))) at) s.0 s.1.0
+      (removed (values_of (get m.attr (e, f))) at (values_given (e, f) (get m.attr (e, f)) (is.values (e, f)))))
   step_keeps m (Shift e f from to) s is =
       values_set m e f (entry_of (shifted (values_of (get m.attr (e, f))) from to)) is
-      (entry_given (e, f) (shifted (values_of (get m.attr (e, f))) from to) s.0 s.1.0 (moved (values_of (get m.attr (e, f))) from to (values_given (e, f) (get m.attr (e, f)) (is.values (e, f)))))
+      (entry_given (e, f) (shifted (values_of (get m.attr (e, f))) from to) s.0 s.1.0
+      (moved (values_of (get m.attr (e, f))) from to (values_given (e, f) (get m.attr (e, f)) (is.values (e, f)))))
   step_keeps m (Link a f ra b rb) s is =
-      record { kinds = is.kinds; places = is.places; ranks = is.ranks; values = is.values; rows = pair_given a f b (Some ra) rb m.row is.rows s.0 s.1.0 s.1.1.1.0 s.1.1.0 s.1.1.1.1 }
+      record {
+        kinds = is.kinds;
+        places = is.places;
+        ranks = is.ranks;
+        values = is.values;
+        rows =
+            pair_given a f b (Some ra) rb m.row is.rows s.0 s.1.0 s.1.1.1.0 s.1.1.0 s.1.1.1.1;
+      }
   step_keeps m (Unlink a f ra b rb) s is =
-      record { kinds = is.kinds; places = is.places; ranks = is.ranks; values = is.values; rows = pair_given a f b None None m.row is.rows s.0 s.1.0 s.1.1.1.0 tt tt }
+      record {
+        kinds = is.kinds;
+        places = is.places;
+        ranks = is.ranks;
+        values = is.values;
+        rows =
+            pair_given a f b None None m.row is.rows s.0 s.1.0 s.1.1.1.0 tt tt;
+      }
   step_keeps m (RerankRow a f b old new) s is = record {
     kinds = is.kinds;
     places = is.places;
@@ -151,7 +184,14 @@ module _ (meta : Meta) (sound : Sound meta) where
     rows = is.rows;
   }
   step_keeps m (RerankPlace e old new) s is =
-      record { kinds = is.kinds; places = is.places; ranks = each_set id_order (λ e. IsU64) m.prank e (Some new) is.ranks s.1.1; values = is.values; rows = is.rows }
+      record {
+        kinds = is.kinds;
+        places = is.places;
+        ranks = each_set id_order (λ e. IsU64) m.prank e (Some new) is.ranks s.1.1;
+        values =
+            is.values;
+        rows = is.rows;
+      }
 
   pub run_keeps : (m n : State) (steps : List Step) → AllByRecursion IsStep steps → IsSpelled meta m → fold meta m steps ≡ Some n → IsSpelled meta n
   run_keeps m n [] spelled is led = let same : m ≡ n = cc in subst (λ (x : State). IsSpelled meta x) same is

@@ -32,7 +32,8 @@ all_given [] all = tt
 all_given (o ∷ os) all = both IsStep (steps_of o) (steps_all os) (steps_given o all.0) (all_given os all.1)
 
 pub packages_keep_spelled : PackagesKeepSpelled
-packages_keep_spelled meta sound m n is os spelled led = run_keeps meta sound m n (steps_all os) (all_given os (recursion_from_All IsOperation os spelled.1)) is led
+packages_keep_spelled meta sound m n is os spelled led =
+    run_keeps meta sound m n (steps_all os) (all_given os (recursion_from_All IsOperation os spelled.1)) is led
 
 -- ---- the package of a state
 pub as_package_none : (ss : List Step) → length ss ≤ 0 → [] ≡ as_package ss

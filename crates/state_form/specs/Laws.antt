@@ -19,11 +19,13 @@ NothingIsSpelled = (meta : Meta) → IsSpelled meta nothing
 
 -- steps that have an encoding lead from a spelled state to one
 abbrev pub StepsKeepSpelled : Type 0
-StepsKeepSpelled = (meta : Meta) → Sound meta → (m n : State) → IsSpelled meta m → (steps : List Step) → All IsStep steps → fold meta m steps ≡ Some n → IsSpelled meta n
+StepsKeepSpelled = (meta : Meta) → Sound meta → (m n : State) → IsSpelled meta m → (steps : List Step) → All IsStep steps → fold meta m steps ≡ Some n
+    → IsSpelled meta n
 
 -- and so do packages
 abbrev pub PackagesKeepSpelled : Type 0
-PackagesKeepSpelled = (meta : Meta) → Sound meta → (m n : State) → IsSpelled meta m → (operations : List Operation) → IsPackage operations → fold_package meta m operations ≡ Some n → IsSpelled meta n
+PackagesKeepSpelled = (meta : Meta) → Sound meta → (m n : State) → IsSpelled meta m → (operations : List Operation) → IsPackage operations
+    → fold_package meta m operations ≡ Some n → IsSpelled meta n
 
 -- each step that builds a spelled state has an encoding
 abbrev pub WholeStepsAreSpelled : Type 0

@@ -33,7 +33,8 @@ plain_some meta (Contains t o) d h = cc
 plain_some meta (Container t o) d h = cc
 plain_some meta Skip d h = cc
 
-source_plain : (meta : Meta) (c : Option ℕ) (f : ℕ) (d : Option ℕ) → may_link meta c f d ≡ true → (class_has meta c f ≡ true) × (is_plain (kind_of meta f) ≡ true)
+source_plain : (meta : Meta) (c : Option ℕ) (f : ℕ) (d : Option ℕ) → may_link meta c f d ≡ true
+    → (class_has meta c f ≡ true) × (is_plain (kind_of meta f) ≡ true)
 source_plain meta None f d h = cc
 source_plain meta (Some c) f None h = cc
 source_plain meta (Some c) f (Some d) h = (and_first _ _ h, plain_some meta (kind_of meta f) d (and_second (has_feature meta c f) _ h))
@@ -51,7 +52,8 @@ not_less_both f g h k = grind (arith, nat_tests)
 
 module _ (meta : Meta) (sound : Sound meta) where
   -- no row of one such reference is near another
-  apart : (s t : AttrKey) (x : IdBytes) → leads meta s ≡ true → leads meta t ≡ true → (s ≡ t → ⊥) → is_row_or_mirror (opposite_of meta t.1) t.0 t.1 (s.0, s.1, x) ≡ false
+  apart : (s t : AttrKey) (x : IdBytes) → leads meta s ≡ true → leads meta t ≡ true → (s ≡ t → ⊥)
+      → is_row_or_mirror (opposite_of meta t.1) t.0 t.1 (s.0, s.1, x) ≡ false
   apart s t x first second differ =
       either (text_eq t.0 s.0 && nat_eq t.1 s.1) (is_mirror (opposite_of meta t.1) t.0 (s.0, s.1, x))
       (λ same. differ (λ i. (sym (text_equality.exact t.0 s.0 (and_first _ _ same)) i, sym (nat_equality.exact t.1 s.1 (and_second _ _ same)) i)))
@@ -67,7 +69,8 @@ module _ (meta : Meta) (sound : Sound meta) where
           let other : opposite_of meta t.1 ≡ Some s.1 = is ∙ ap Some (nat_equality.exact g s.1 (and_first _ _ h)) in
           not_less_both t.1 s.1 (sym (ap (is_less t.1) other) ∙ second) (sym (ap (is_less s.1) (sound.both t.1 s.1 other)) ∙ first)
 
-  untouched : (before : List AttrKey) (s : AttrKey) (x : IdBytes) → AllLead meta before → leads meta s ≡ true → (In s before → ⊥) → is_touched meta before (s.0, s.1, x) ≡ false
+  untouched : (before : List AttrKey) (s : AttrKey) (x : IdBytes) → AllLead meta before → leads meta s ≡ true → (In s before → ⊥)
+      → is_touched meta before (s.0, s.1, x) ≡ false
   untouched [] s x all first far = refl
   untouched (t ∷ ts) s x all first far =
       ap (λ b. b || is_touched meta ts (s.0, s.1, x)) (apart s t x first all.0 (λ e. far (inl e))) ∙ untouched ts s x all.1 first (λ h. far (inr h))
@@ -77,22 +80,29 @@ module _ (meta : Meta) (sound : Sound meta) where
   lead_join (x ∷ xs) ys h g = (h.0, lead_join xs ys h.1 g)
 
   -- so each reference is unlinked from all its targets
-  pub all_out : (row : Rows) (ss before : List AttrKey) → AllLead meta before → AllLead meta ss → Distinct ss → ((s : AttrKey) → In s ss → In s before → ⊥) → outgoing_made meta row before ss ≡ unlinked meta row ss
+  pub all_out : (row : Rows) (ss before : List AttrKey) → AllLead meta before → AllLead meta ss → Distinct ss
+      → ((s : AttrKey) → In s ss → In s before → ⊥) → outgoing_made meta row before ss ≡ unlinked meta row ss
   all_out row [] before all lead d far = refl
   all_out row (s ∷ ss) before all lead d far =
       let rest : outgoing_made meta row (before ++ s ∷ []) ss ≡ unlinked meta row ss =
       all_out row ss (before ++ s ∷ []) (lead_join before (s ∷ []) all (lead.0, tt)) lead.1 d.1
-      (λ t h g. elim (in_either t before (s ∷ []) g) [ inl l ↦ far t (inr h) l | inr r ↦ elim r [ inl e ↦ d.0 (subst (λ (w : AttrKey). In w ss) e h) | inr none ↦ absurd none ] ]) in
+      (λ t h g. elim (in_either t before (s ∷ []) g) [
+        | inl l ↦ far t
+            (inr h) l
+        | inr r ↦ elim r [ inl e ↦ d.0 (subst (λ (w : AttrKey). In w ss) e h) | inr none ↦ absurd none ]
+      ]) in
       let whole : targets_left meta row before s ≡ targets row s.0 s.1 =
-      all_kept (λ (x : Entry). not (is_touched meta before (s.0, s.1, x.id))) (targets row s.0 s.1) (λ x. ap not (untouched before s x.id all lead.0 (far s (inl refl)))) in
+      all_kept (λ (x : Entry). not (is_touched meta before (s.0, s.1, x.id))) (targets row s.0 s.1)
+      (λ x. ap not (untouched before s x.id all lead.0 (far s (inl refl)))) in
       λ i. unlinks row (opposite_of meta s.1) s.0 s.1 (whole i) ++ rest i
 
   pub lead_filtered : (ss : List AttrKey) → AllLead meta (filter (leads meta) ss)
   lead_filtered [] = tt
-  lead_filtered (s ∷ ss) = elim (leads meta s) as (λ b. leads meta s ≡ b → AllLead meta (cond {A = List AttrKey} b (s ∷ filter (leads meta) ss) (filter (leads meta) ss))) [
-    | true ↦ λ is. (is, lead_filtered ss)
-    | false ↦ λ _. lead_filtered ss
-  ] refl
+  lead_filtered (s ∷ ss) =
+      elim (leads meta s) as (λ b. leads meta s ≡ b → AllLead meta (cond {A = List AttrKey} b (s ∷ filter (leads meta) ss) (filter (leads meta) ss))) [
+        | true ↦ λ is. (is, lead_filtered ss)
+        | false ↦ λ _. lead_filtered ss
+      ] refl
 
   module _ (m : State) (good : Good meta m) (xs : List IdBytes) (all : (y : IdBytes) → is_live m y ≡ true → In y xs) where
     some_rank : (o : Option ℕ) → is_some o ≡ true → (r : ℕ) × (o ≡ Some r)
@@ -109,12 +119,14 @@ module _ (meta : Meta) (sound : Sound meta) where
         let ok = subst (λ o. RowOk meta (get m.kind k.0) k.1 (get m.kind k.2) o) is (good.rows.typed k.0 k.1 k.2) in
         let plain = source_plain meta (get m.kind k.0) k.1 (get m.kind k.2) ok in
         kept_in (leads meta) (k.0, k.1) (slots_of meta m is_plain xs)
-        (slot_in meta m is_plain k.0 k.1 xs (all k.0 (live_source (get m.kind k.0) k.1 (get m.kind k.2) r ok)) (feature_listed meta is_plain (get m.kind k.0) k.1 refl plain.0 plain.1)) first
+        (slot_in meta m is_plain k.0 k.1 xs (all k.0 (live_source (get m.kind k.0) k.1 (get m.kind k.2) r ok))
+        (feature_listed meta is_plain (get m.kind k.0) k.1 refl plain.0 plain.1)) first
 
     pub touched_all : (k : RowKey) (r : ℕ) → get m.row k ≡ Some r → is_touched meta (links_of meta m xs) k ≡ true
     touched_all k r is =
         elim (leads meta (k.0, k.1)) as (λ b. leads meta (k.0, k.1) ≡ b → is_touched meta (links_of meta m xs) k ≡ true) [
-          | true ↦ λ first. touched_by meta (links_of meta m xs) (k.0, k.1) k (led k r is first) (ap (λ b. b || is_mirror (opposite_of meta k.1) k.0 k) (and_both _ _ (text_equality.own k.0) (nat_equality.own k.1)))
+          | true ↦ λ first. touched_by meta (links_of meta m xs) (k.0, k.1) k (led k r is first)
+              (ap (λ b. b || is_mirror (opposite_of meta k.1) k.0 k) (and_both _ _ (text_equality.own k.0) (nat_equality.own k.1)))
           | false ↦ λ second. by_opposite (opposite_of meta k.1) refl second
         ] refl
       where
@@ -132,4 +144,5 @@ module _ (meta : Meta) (sound : Sound meta) where
             let other : opposite_of meta g ≡ Some k.1 = sound.both k.1 g at in
             let first : leads meta (k.2, g) ≡ true = ap (is_less g) other ∙ turned k.1 g (sym (ap (is_less k.1) at) ∙ second) (sound.other k.1 g at) in
             touched_by meta (links_of meta m xs) (k.2, g) k (led (k.2, g, k.0) back.0 back.1 first)
-            (ap (λ o. is_row_or_mirror o k.2 g k) other ∙ ap (λ b. (text_eq k.2 k.0 && nat_eq g k.1) || b) (and_both _ _ (nat_equality.own k.1) (text_equality.own k.2)) ∙ or_true _)
+            (ap (λ o. is_row_or_mirror o k.2 g k) other
+            ∙ ap (λ b. (text_eq k.2 k.0 && nat_eq g k.1) || b) (and_both _ _ (nat_equality.own k.1) (text_equality.own k.2)) ∙ or_true _)

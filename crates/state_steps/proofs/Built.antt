@@ -32,7 +32,8 @@ use Rattle.state_steps.proofs.Turned.{all_turned}
 use Rattle.state_steps.proofs.Everyone.{all_ordered, all_live, among_all, distinct_from, everyone}
 
 -- a map without all that it has
-all_gone : {K X : Type 0} {R : K → K → Ordering} (o : IsKeyOrder R) (p : K → Bool) (m : FinMap R X) → ((k : K) (v : X) → get m k ≡ Some v → p k ≡ true) → without p m ≡ empty
+all_gone : {K X : Type 0} {R : K → K → Ordering} (o : IsKeyOrder R) (p : K → Bool) (m : FinMap R X)
+    → ((k : K) (v : X) → get m k ≡ Some v → p k ≡ true) → without p m ≡ empty
 all_gone {X = X} {R = R} o p m h = same o (without p m) empty (λ k.
     get-without o p m k
     ∙ elim (get m k) as (λ w. get m k ≡ w → cond (p k) None w ≡ None) [
@@ -91,7 +92,8 @@ module _ (meta : Meta) (sound : Sound meta) (m : State) (good : Good meta m) whe
   no_rows = all_gone row_order (is_touched meta links) m.row (λ k r is. touched_all meta sound m good xs (everyone meta m good) k r is)
 
   part_out : Leads meta m (unlinked meta m.row links) empty
-  part_out = subst (λ ss. Leads meta m ss empty) out_is (subst (λ (w : Rows). Leads meta m (outgoing_made meta m.row [] links) w) no_rows (outgoing_leads meta sound m.row links [] m good no_slots))
+  part_out = subst (λ ss. Leads meta m ss empty) out_is
+      (subst (λ (w : Rows). Leads meta m (outgoing_made meta m.row [] links) w) no_rows (outgoing_leads meta sound m.row links [] m good no_slots))
 
   -- ---- the values
   no_values : without (λ (k : AttrKey). is_among xs k.0) m.attr ≡ empty
@@ -100,7 +102,8 @@ module _ (meta : Meta) (sound : Sound meta) (m : State) (good : Good meta m) whe
 
   part_values : fold meta (record m { row = empty }) (values_made meta m slots) ≡ Some (record m { row = empty; attr = empty })
   part_values =
-      values_lead meta sound m slots (record m { row = empty }) part_out.good (attributes meta m good xs) (slots_distinct meta m holds_values xs once) (kept_all meta sound m slots)
+      values_lead meta sound m slots (record m { row = empty }) part_out.good (attributes meta m good xs) (slots_distinct meta m holds_values xs once)
+      (kept_all meta sound m slots)
       ∙ ap (λ (attr : FinMap _ (List Value)). Some (record m { row = empty; attr = attr })) (values_left meta m good xs ∙ no_values)
 
   -- ---- the elements
@@ -108,7 +111,12 @@ module _ (meta : Meta) (sound : Sound meta) (m : State) (good : Good meta m) whe
   with_none map = same id_order _ _ (λ q. sym (get-without id_order (is_among []) map q))
 
   bare : Bare empty empty xs
-  bare = record { values = λ k vs is one. no_entry attr_cmp k vs is; rows_out = λ k r is one. no_entry row_cmp k r is; rows_in = λ k r is one. no_entry row_cmp k r is }
+  bare = record {
+    values = λ k vs is one. no_entry attr_cmp k vs is;
+    rows_out = λ k r is one. no_entry row_cmp k r is;
+    rows_in =
+        λ k r is one. no_entry row_cmp k r is;
+  }
 
   live_some : {X : Type 0} (o : Option X) (v : X) → o ≡ Some v → is_some o ≡ true
   live_some o v h = ap is_some h
@@ -116,11 +124,19 @@ module _ (meta : Meta) (sound : Sound meta) (m : State) (good : Good meta m) whe
   part_gone : fold meta (record m { row = empty; attr = empty }) (gone_made m xs) ≡ Some nothing
   part_gone =
       let before : State = record m { row = empty; attr = empty } in
-      let same_state : before ≡ stripped m empty empty [] = λ i. record { kind = with_none m.kind i; place = with_none m.place i; prank = with_none m.prank i; attr = empty; row = empty } in
+      let same_state : before ≡ stripped m empty empty [] =
+      λ i. record { kind = with_none m.kind i; place = with_none m.place i; prank = with_none m.prank i; attr = empty; row = empty } in
       let no_kind = all_gone id_order (is_among xs) m.kind (λ e c is. among_all meta m good e (live_some (get m.kind e) c is)) in
-      let no_place = all_gone id_order (is_among xs) m.place (λ e p is. among_all meta m good e (place_live meta m.kind (get m.kind e) p (get m.prank e) (subst (λ o. PlaceOk meta m.kind (get m.kind e) o (get m.prank e)) is (good.places.stands e)))) in
-      let no_prank = all_gone id_order (is_among xs) m.prank (λ e r is. among_all meta m good e (rank_live meta m.kind (get m.kind e) (get m.place e) r (subst (λ o. PlaceOk meta m.kind (get m.kind e) (get m.place e) o) is (good.places.stands e)))) in
-      let all_stripped : stripped m empty empty xs ≡ nothing = λ i. record { kind = no_kind i; place = no_place i; prank = no_prank i; attr = empty; row = empty } in
+      let no_place = all_gone id_order (is_among xs) m.place
+      (λ e p is. among_all meta m good e
+      (place_live meta m.kind (get m.kind e) p (get m.prank e)
+      (subst (λ o. PlaceOk meta m.kind (get m.kind e) o (get m.prank e)) is (good.places.stands e)))) in
+      let no_prank = all_gone id_order (is_among xs) m.prank
+      (λ e r is. among_all meta m good e
+      (rank_live meta m.kind (get m.kind e) (get m.place e) r
+      (subst (λ o. PlaceOk meta m.kind (get m.kind e) (get m.place e) o) is (good.places.stands e)))) in
+      let all_stripped : stripped m empty empty xs ≡ nothing =
+      λ i. record { kind = no_kind i; place = no_place i; prank = no_prank i; attr = empty; row = empty } in
       ap (λ (n : State). fold meta n (gone_made m xs)) same_state
       ∙ elements_lead meta m good (has_children meta m good) empty empty xs (all_live meta m good xs (λ y h. h)) (all_ordered meta m good) bare
       ∙ ap Some all_stripped

@@ -39,7 +39,8 @@ module _ (meta : Meta) (m : State) (good : Good meta m) where
   no_up r t root differ zero up = differ up
   no_up r t root differ (suc n) up = clash (get m.place r) up.0 up.1 root up.2
 
-  aside_roots : (r : IdBytes) (ts : List IdBytes) → get m.place r ≡ Some Root → ((t : IdBytes) → In t ts → get m.place t ≡ Some Root) → (In r ts → ⊥) → AsideAll m.place r ts
+  aside_roots : (r : IdBytes) (ts : List IdBytes) → get m.place r ≡ Some Root → ((t : IdBytes) → In t ts → get m.place t ≡ Some Root) → (In r ts → ⊥)
+      → AsideAll m.place r ts
   aside_roots r [] root all apart = tt
   aside_roots r (t ∷ ts) root all apart = (
     (no_up r t root (λ e. apart (inl e)), no_up t r (all t (inl refl)) (λ e. apart (inl (sym e)))),
@@ -51,7 +52,8 @@ module _ (meta : Meta) (m : State) (good : Good meta m) where
   spread_roots (r ∷ rs) all d = (aside_roots r rs (all r (inl refl)) (λ z h. all z (inr h)) d.0, spread_roots rs (λ z h. all z (inr h)) d.1)
 
   pub all_ordered : Ordered meta m good known (elements_of meta m)
-  all_ordered = forest_ordered meta m good known (roots_of m) (elements_of meta m) (spread_roots (roots_of m) root_place (children_once m Root meta good)) (forest_each (roots_of m))
+  all_ordered = forest_ordered meta m good known (roots_of m) (elements_of meta m)
+      (spread_roots (roots_of m) root_place (children_once m Root meta good)) (forest_each (roots_of m))
 
   -- each element that stands somewhere is among them
   stands : (up : List IdBytes) (y : IdBytes) (o : Option Place) → get m.place y ≡ o → IsChain m.place o up → In y (elements_of meta m)
@@ -59,7 +61,8 @@ module _ (meta : Meta) (m : State) (good : Good meta m) where
   stands up y (Some Root) is chain = forest_has meta m good known (roots_of m) (elements_of meta m) (forest_each (roots_of m)) y (children_have m Root y is)
   stands [] y (Some (Inside a f)) is chain = absurd chain
   stands (x ∷ xs) y (Some (Inside a f)) is chain =
-      all_below meta m good known (elements_of meta m) all_ordered 1 y a (subst (λ z. In z (elements_of meta m)) chain.0 (stands xs x (get m.place x) refl chain.1)) (a, f, is, refl)
+      all_below meta m good known (elements_of meta m) all_ordered 1 y a
+      (subst (λ z. In z (elements_of meta m)) chain.0 (stands xs x (get m.place x) refl chain.1)) (a, f, is, refl)
 
   pub everyone : (y : IdBytes) → is_live m y ≡ true → In y (elements_of meta m)
   everyone y live =
@@ -77,7 +80,9 @@ module _ (meta : Meta) (m : State) (good : Good meta m) where
 
   live_up : (y r : IdBytes) (n : ℕ) → get m.place r ≡ Some Root → Up m.place n y r → is_live m y ≡ true
   live_up y r zero root up = ap (is_live m) up ∙ live_root r root
-  live_up y r (suc n) root up = (placed_live meta m.kind (get m.kind y) (Inside up.0 up.1) (get m.prank y) (subst (λ o. PlaceOk meta m.kind (get m.kind y) o (get m.prank y)) up.2 (good.places.stands y))).0
+  live_up y r (suc n) root up =
+      (placed_live meta m.kind (get m.kind y) (Inside up.0 up.1) (get m.prank y)
+      (subst (λ o. PlaceOk meta m.kind (get m.kind y) o (get m.prank y)) up.2 (good.places.stands y))).0
 
   listed_live : (y : IdBytes) → In y (elements_of meta m) → is_live m y ≡ true
   listed_live y is =

@@ -39,7 +39,9 @@ put_turned s (Some v) = refl
 
 filled_turned : (meta : Meta) (m : State) (s : AttrKey) → rev_all (emptied_made meta m s) ≡ filled meta m s
 filled_turned meta m s =
-    elim (is_attr (kind_of meta s.1)) as (λ b. rev_all (cond b (put_made m s.0 s.1 None) (dels s.0 s.1 0 (values_at m s.0 s.1))) ≡ cond b (put_first s (single_value (get m.attr s))) (inserts s.0 s.1 0 (values_at m s.0 s.1))) [
+    elim (is_attr (kind_of meta s.1)) as (λ b.
+    rev_all (cond b (put_made m s.0 s.1 None) (dels s.0 s.1 0 (values_at m s.0 s.1))) ≡ cond b (put_first s (single_value (get m.attr s)))
+    (inserts s.0 s.1 0 (values_at m s.0 s.1))) [
       | true ↦ put_turned s (single_value (get m.attr s))
       | false ↦ inserts_turned s.0 s.1 0 (values_at m s.0 s.1)
     ]
@@ -64,7 +66,9 @@ links_turned row o a f (x ∷ xs) = (λ i. links_turned row o a f xs i ++ step_t
 all_links_turned : (meta : Meta) (row : Rows) (ss : List AttrKey) → rev_all (unlinked meta row (filter (leads meta) ss)) ≡ all_linked meta row ss
 all_links_turned meta row [] = refl
 all_links_turned meta row (s ∷ ss) =
-    elim (leads meta s) as (λ b. rev_all (unlinked meta row (cond {A = List AttrKey} b (s ∷ filter (leads meta) ss) (filter (leads meta) ss))) ≡ all_linked meta row ss ++ cond b (linked row (opposite_of meta s.1) s.0 s.1 (targets row s.0 s.1)) []) [
+    elim (leads meta s) as (λ b.
+    rev_all (unlinked meta row (cond {A = List AttrKey} b (s ∷ filter (leads meta) ss) (filter (leads meta) ss))) ≡ all_linked meta row ss
+    ++ cond b (linked row (opposite_of meta s.1) s.0 s.1 (targets row s.0 s.1)) []) [
       | true ↦
           rev_join (unlinks row (opposite_of meta s.1) s.0 s.1 (targets row s.0 s.1)) (unlinked meta row (filter (leads meta) ss))
           ∙ (λ i. all_links_turned meta row ss i ++ links_turned row (opposite_of meta s.1) s.0 s.1 (targets row s.0 s.1) i)
@@ -80,4 +84,5 @@ all_turned meta m xs =
     rev_join rows (values ++ gone_made m xs)
     ∙ ap (λ l. l ++ rev_all rows) (rev_join values (gone_made m xs))
     ∙ append_assoc (rev_all (gone_made m xs)) (rev_all values) (rev_all rows)
-    ∙ (λ i. births_turned m xs i ++ (all_filled_turned meta m (slots_of meta m holds_values xs) i ++ all_links_turned meta m.row (slots_of meta m is_plain xs) i))
+    ∙ (λ i. births_turned m xs i
+    ++ (all_filled_turned meta m (slots_of meta m holds_values xs) i ++ all_links_turned meta m.row (slots_of meta m is_plain xs) i))

@@ -33,7 +33,8 @@ arrived t n i j k w is wrote here there b q =
       | true ↦ λ same. subst (λ z. get (arriving j z) q ≡ cond (text_eq z q.2) (tree.get row_cmp n q) None) (text_equality.exact k.2 b same) (
           ap (λ m. get m q) here ∙ get-set row_order (arriving i k.2) k w q
           ∙ ap (cond (eq_by_cmp row_cmp q k) w) (is k.2 q)
-          ∙ elim (eq_by_cmp row_cmp q k) as (λ c. eq_by_cmp row_cmp q k ≡ c → cond c w (cond (text_eq k.2 q.2) (tree.get row_cmp t q) None) ≡ cond (text_eq k.2 q.2) (cond c w (tree.get row_cmp t q)) None) [
+          ∙ elim (eq_by_cmp row_cmp q k) as (λ c. eq_by_cmp row_cmp q k ≡ c
+          → cond c w (cond (text_eq k.2 q.2) (tree.get row_cmp t q) None) ≡ cond (text_eq k.2 q.2) (cond c w (tree.get row_cmp t q)) None) [
             | true ↦ λ like. sym (ap (λ c. cond c w None) (ap (λ (z : RowKey). text_eq k.2 z.2) (same_key row_order q k like) ∙ text_equality.own k.2))
             | false ↦ λ _. refl
           ] refl
@@ -41,9 +42,11 @@ arrived t n i j k w is wrote here there b q =
           ∙ sym (ap (λ o. cond (text_eq k.2 q.2) o None) (wrote q)))
       | false ↦ λ else.
           ap (λ m. get m q) (there b else) ∙ is b q
-          ∙ elim (is_at (row_cmp k) q) as (λ c. is_at (row_cmp k) q ≡ c → cond (text_eq b q.2) (tree.get row_cmp t q) None ≡ cond (text_eq b q.2) (cond c w (tree.get row_cmp t q)) None) [
+          ∙ elim (is_at (row_cmp k) q) as (λ c. is_at (row_cmp k) q ≡ c
+          → cond (text_eq b q.2) (tree.get row_cmp t q) None ≡ cond (text_eq b q.2) (cond c w (tree.get row_cmp t q)) None) [
             | true ↦ λ like.
-                let not : text_eq b q.2 ≡ false = ap (λ (z : RowKey). text_eq b z.2) (sym (same_key row_order k q like)) ∙ apart text_eq text_equality k.2 b else in
+                let not : text_eq b q.2 ≡ false =
+                ap (λ (z : RowKey). text_eq b z.2) (sym (same_key row_order k q like)) ∙ apart text_eq text_equality k.2 b else in
                 ap (λ c. cond c (tree.get row_cmp t q) None) not ∙ sym (ap (λ c. cond c w None) not)
             | false ↦ λ _. refl
           ] refl
@@ -51,9 +54,11 @@ arrived t n i j k w is wrote here there b q =
     ] refl
 
 -- what was put in is taken back
-pub into_undone : (t n : BTreeMap RowKey ℕ) (i p j : Into) (k : RowKey) (r : ℕ) (old : Option ℕ) → IsInto t i → n.entries ≡ t.entries → tree.get row_cmp t k ≡ old
+pub into_undone : (t n : BTreeMap RowKey ℕ) (i p j : Into) (k : RowKey) (r : ℕ) (old : Option ℕ) → IsInto t i → n.entries ≡ t.entries
+    → tree.get row_cmp t k ≡ old
     → arriving p k.2 ≡ set (arriving i k.2) k (Some r) → ((x : IdBytes) → text_eq k.2 x ≡ false → arriving p x ≡ arriving i x)
-    → (is_some (get (arriving p k.2) k) ≡ true → arriving j k.2 ≡ set (arriving p k.2) k old) → ((x : IdBytes) → text_eq k.2 x ≡ false → arriving j x ≡ arriving p x)
+    → (is_some (get (arriving p k.2) k) ≡ true → arriving j k.2 ≡ set (arriving p k.2) k old)
+    → ((x : IdBytes) → text_eq k.2 x ≡ false → arriving j x ≡ arriving p x)
     → IsInto n j
 into_undone t n i p j k r old is same was here there back else b q =
     ap (λ m. get m q) (elim (text_eq k.2 b) as (λ c. text_eq k.2 b ≡ c → arriving j b ≡ arriving i b) [
@@ -71,7 +76,8 @@ ends_at b e = text_eq b e.0.2
 pub incoming_are : (t : BTreeMap RowKey ℕ) (i : Into) → IsInto t i → (b : IdBytes) → map row_incoming (entries (arriving i b)) ≡ incoming (table row_cmp t) b
 incoming_are t i is b =
     ap (map row_incoming) (
-    entries-part row_order row_order (ends_at b) (λ (e : RowKey × ℕ). e) (λ k. k) (λ e d _ _ less. less) (λ e _. refl) (λ l x _. refl) (table row_cmp t) (arriving i b)
+    entries-part row_order row_order (ends_at b) (λ (e : RowKey × ℕ). e) (λ k. k) (λ e d _ _ less. less) (λ e _. refl) (λ l x _. refl)
+    (table row_cmp t) (arriving i b)
     (λ k. is b k ∙ kept k (tree.get row_cmp t k) ∙ ap (part (ends_at b) (λ (e : RowKey × ℕ). e) (λ k. k) k) (sym (get-table row_order t k))))
     ∙ map_map row_incoming (λ (e : RowKey × ℕ). e) (filter (ends_at b) (entries (table row_cmp t)))
   where

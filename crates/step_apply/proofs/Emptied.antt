@@ -34,9 +34,12 @@ no_group t none b = get-table id_order t b ∙ ap (λ es. lookup (is_at (id_cmp 
 -- nothing stands in an element without lists
 pub none_inside : (t : BTreeMap IdBytes Placed) (g : Groups) → IsGrouped t g → (e : IdBytes) → ((f : ℕ) (b : IdBytes) → get (members_of g.inside e f) b ≡ None)
     → 0 ≡ count (λ (x : IdBytes × Place). is_inside e x.1) (table_of id_cmp (λ x. x.place) t)
-none_inside t g is e none = sym (count_none id_order (λ (x : IdBytes × Place). is_inside e x.1) (table_of id_cmp (λ x. x.place) t) (λ q v found. not_inside q v (sym (get-table_of id_order (λ (x : Placed). x.place) t q) ∙ found)))
+none_inside t g is e none =
+    sym (count_none id_order (λ (x : IdBytes × Place). is_inside e x.1) (table_of id_cmp (λ x. x.place) t)
+    (λ q v found. not_inside q v (sym (get-table_of id_order (λ (x : Placed). x.place) t q) ∙ found)))
   where
-    there : (q : IdBytes) (a : IdBytes) (f : ℕ) (o : Option Placed) → option_map (λ (x : Placed). x.place) o ≡ Some (Inside a f) → stood (Inside a f) o ≡ None → ⊥
+    there : (q : IdBytes) (a : IdBytes) (f : ℕ) (o : Option Placed) → option_map (λ (x : Placed). x.place) o ≡ Some (Inside a f)
+        → stood (Inside a f) o ≡ None → ⊥
     there q a f None found gone = some_none None (Inside a f) found refl
     there q a f (Some x) found gone =
         some_none (Some x.rank) x.rank refl
@@ -48,13 +51,17 @@ none_inside t g is e none = sym (count_none id_order (λ (x : IdBytes × Place).
     not_inside : (q : IdBytes) (v : Place) → option_map (λ (x : Placed). x.place) (tree.get id_cmp t q) ≡ Some v → is_inside e v ≡ false
     not_inside q Root found = refl
     not_inside q (Inside a f) found = not_so (text_eq e a) (λ like.
-        there q a f (tree.get id_cmp t q) found (sym (is (Inside a f) q) ∙ ap (λ z. get (members_of g.inside z f) q) (sym (text_equality.exact e a like)) ∙ none f q))
+        there q a f (tree.get id_cmp t q) found
+        (sym (is (Inside a f) q) ∙ ap (λ z. get (members_of g.inside z f) q) (sym (text_equality.exact e a like)) ∙ none f q))
 
 -- no row begins or ends at an element without lists
-pub none_at : (t : BTreeMap RowKey ℕ) (o : BTreeMap IdBytes (BTreeMap ℕ Ranks)) (i : BTreeMap IdBytes (BTreeMap RowKey ℕ)) → IsOut t o → IsInto t i → (e : IdBytes)
+pub none_at : (t : BTreeMap RowKey ℕ) (o : BTreeMap IdBytes (BTreeMap ℕ Ranks)) (i : BTreeMap IdBytes (BTreeMap RowKey ℕ)) → IsOut t o → IsInto t i
+    → (e : IdBytes)
     → ((f : ℕ) (b : IdBytes) → get (members_of o e f) b ≡ None) → ((k : RowKey) → get (arriving i e) k ≡ None)
     → 0 ≡ count (λ (x : RowKey × ℕ). text_eq e x.0.0 || text_eq e x.0.2) (table row_cmp t)
-none_at t o i out into e none none' = sym (count_none row_order (λ (x : RowKey × ℕ). text_eq e x.0.0 || text_eq e x.0.2) (table row_cmp t) (λ q v found. neither q v (sym (get-table row_order t q) ∙ found)))
+none_at t o i out into e none none' =
+    sym (count_none row_order (λ (x : RowKey × ℕ). text_eq e x.0.0 || text_eq e x.0.2) (table row_cmp t)
+    (λ q v found. neither q v (sym (get-table row_order t q) ∙ found)))
   where
     either : (a b : Bool) → a ≡ false → b ≡ false → a || b ≡ false
     either a b p q = ap (λ x. x || b) p ∙ q

@@ -17,7 +17,8 @@ use Rattle.step_apply.specs.Groups.{rows_of}
 
 -- different names are not found at one another
 pub not_at : (a b : IdBytes) → text_eq a b ≡ false → is_at (id_cmp a) b ≡ false
-not_at a b apart = not_so (is_at (id_cmp a) b) (λ t. true_false (text_eq a b) (subst (λ z. text_eq a z ≡ true) (same_key id_order a b t) (text_equality.own a)) apart)
+not_at a b apart = not_so (is_at (id_cmp a) b)
+    (λ t. true_false (text_eq a b) (subst (λ z. text_eq a z ≡ true) (same_key id_order a b t) (text_equality.own a)) apart)
 
 pub no_items : {A : Type 0} (xs : List A) → length xs ≡ 0 → xs ≡ []
 no_items [] h = refl

@@ -3,7 +3,8 @@ use Rattle.std.proofs.Common.{◌≡◌, Bool, true, false, cond, List, [], ◌�
 use Rattle.std.specs.List.{filter}
 
 module _ {A X Y : Type 0} (h : X → Y) (p : X → Bool) (shows : A → X) where
-  before : (b : Bool) (y : Y) (xs zs : List X) → map h xs ≡ map h zs ++ y ∷ [] → (z : X) → map h (cond {A = List X} b (z ∷ xs) xs) ≡ map h (cond {A = List X} b (z ∷ zs) zs) ++ y ∷ []
+  before : (b : Bool) (y : Y) (xs zs : List X) → map h xs ≡ map h zs ++ y ∷ [] → (z : X)
+      → map h (cond {A = List X} b (z ∷ xs) xs) ≡ map h (cond {A = List X} b (z ∷ zs) zs) ++ y ∷ []
   before true y xs zs e z = ap (λ l. h z ∷ l) e
   before false y xs zs e z = e
 

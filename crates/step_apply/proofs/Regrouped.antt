@@ -41,11 +41,13 @@ regrouped t n g h e w is wrote each p q =
     ∙ ap (λ b. stood p (cond b w (tree.get id_cmp t q))) ((eq_by_cmp_equiv id_order.total).symm q e)
     ∙ sym (ap (stood p) (wrote q))
 
-pub same_grouped : (t n : BTreeMap IdBytes Placed) (g h : Groups) → IsGrouped t g → n.entries ≡ t.entries → ((p : Place) → standing h p ≡ standing g p) → IsGrouped n h
+pub same_grouped : (t n : BTreeMap IdBytes Placed) (g h : Groups) → IsGrouped t g → n.entries ≡ t.entries
+    → ((p : Place) → standing h p ≡ standing g p) → IsGrouped n h
 same_grouped t n g h is same each p q = ap (λ m. get m q) (each p) ∙ is p q ∙ ap (λ es. stood p (lookup (is_at (id_cmp q)) es)) (sym same)
 
 -- an element that is put into one list, and into no other
-pub into_one : (f h : Place → FinMap id_cmp ℕ) (e : IdBytes) (x : Placed) → f x.place ≡ set (h x.place) e (Some x.rank) → ((p : Place) → place_eq x.place p ≡ false → f p ≡ set (h p) e None)
+pub into_one : (f h : Place → FinMap id_cmp ℕ) (e : IdBytes) (x : Placed) → f x.place ≡ set (h x.place) e (Some x.rank)
+    → ((p : Place) → place_eq x.place p ≡ false → f p ≡ set (h p) e None)
     → (p : Place) → f p ≡ set (h p) e (stood p (Some x))
 into_one f h e x here there p =
     elim (place_eq x.place p) as (λ b. place_eq x.place p ≡ b → f p ≡ set (h p) e (cond (place_eq p x.place) (Some x.rank) None)) [
@@ -56,11 +58,13 @@ into_one f h e x here there p =
     ] refl
 
 -- nothing stands otherwise where only what is not there is taken out
-pub not_in : (h : Place → FinMap id_cmp ℕ) (e : IdBytes) (x : Placed) (p : Place) → get (h p) e ≡ stood p (Some x) → place_eq x.place p ≡ false → h p ≡ set (h p) e None
+pub not_in : (h : Place → FinMap id_cmp ℕ) (e : IdBytes) (x : Placed) (p : Place) → get (h p) e ≡ stood p (Some x) → place_eq x.place p ≡ false
+    → h p ≡ set (h p) e None
 not_in h e x p is else = sym (set_here id_order (h p) e None (is ∙ ap (λ b. cond b (Some x.rank) None) (apart place_eq place_equality x.place p else)))
 
 -- what is taken out of its only list is in none
-pub out_of_one : (f h : Place → FinMap id_cmp ℕ) (e : IdBytes) (x : Placed) → ((p : Place) → get (h p) e ≡ stood p (Some x)) → f x.place ≡ set (h x.place) e None → ((p : Place) → place_eq x.place p ≡ false → f p ≡ h p) → (p : Place) → f p ≡ set (h p) e None
+pub out_of_one : (f h : Place → FinMap id_cmp ℕ) (e : IdBytes) (x : Placed) → ((p : Place) → get (h p) e ≡ stood p (Some x))
+    → f x.place ≡ set (h x.place) e None → ((p : Place) → place_eq x.place p ≡ false → f p ≡ h p) → (p : Place) → f p ≡ set (h p) e None
 out_of_one f h e x is here there p =
     elim (place_eq x.place p) as (λ b. place_eq x.place p ≡ b → f p ≡ set (h p) e None) [
       | true ↦ λ same. subst (λ z. f z ≡ set (h z) e None) (place_equality.exact x.place p same) here
@@ -78,11 +82,13 @@ stood_part p prank l None is = refl
 stood_part p prank l (Some x) is = ap (λ r. cond (place_eq p x.place) (Some r) None) (sym (ap (λ o. unwrap_or o 0) is))
 
 module _ (t : BTreeMap IdBytes Placed) (g : Groups) (is : IsGrouped t g) (p : Place) where
-  entries_are : entries (standing g p) ≡ map (at_rank (table_of id_cmp (λ x. x.rank) t)) (filter (λ (e : IdBytes × Place). place_eq p e.1) (entries (table_of id_cmp (λ x. x.place) t)))
+  entries_are : entries (standing g p) ≡ map (at_rank (table_of id_cmp (λ x. x.rank) t))
+      (filter (λ (e : IdBytes × Place). place_eq p e.1) (entries (table_of id_cmp (λ x. x.place) t)))
   entries_are =
       let prank = table_of id_cmp (λ (x : Placed). x.rank) t in
       let place = table_of id_cmp (λ (x : Placed). x.place) t in
-      entries-part id_order id_order (λ (e : IdBytes × Place). place_eq p e.1) (at_rank prank) (λ k. k) (λ e d _ _ less. less) (λ e _. refl) (λ l x _. refl) place (standing g p)
+      entries-part id_order id_order (λ (e : IdBytes × Place). place_eq p e.1) (at_rank prank) (λ k. k) (λ e d _ _ less. less) (λ e _. refl)
+      (λ l x _. refl) place (standing g p)
       (λ l. is p l ∙ stood_part p prank l (tree.get id_cmp t l) (get-table_of id_order (λ (x : Placed). x.rank) t l)
       ∙ ap (part (λ (e : IdBytes × Place). place_eq p e.1) (at_rank prank) (λ k. k) l) (sym (get-table_of id_order (λ (x : Placed). x.place) t l)))
 
@@ -106,14 +112,18 @@ tally_part {A = A} p h (x ∷ xs) =
     more n = omega arith
 
 pub spots_are : (t : BTreeMap IdBytes Placed) (g : Groups) → IsGrouped t g → (p : Place)
-    → map ranked_entry (entries (standing g p)) ≡ map (λ (e : IdBytes × Place). record { rank = rank_at (table_of id_cmp (λ x. x.rank) t) e.0; id = e.0 }) (filter (λ (e : IdBytes × Place). place_eq p e.1) (entries (table_of id_cmp (λ x. x.place) t)))
+    → map ranked_entry (entries (standing g p)) ≡ map
+    (λ (e : IdBytes × Place). record { rank = rank_at (table_of id_cmp (λ x. x.rank) t) e.0; id = e.0 })
+    (filter (λ (e : IdBytes × Place). place_eq p e.1) (entries (table_of id_cmp (λ x. x.place) t)))
 spots_are t g is p = ap (map ranked_entry) (entries_are t g is p) ∙ map_map ranked_entry (at_rank (table_of id_cmp (λ x. x.rank) t)) _
 
-pub spots_count : (t : BTreeMap IdBytes Placed) (g : Groups) → IsGrouped t g → (p : Place) → length (entries (standing g p)) ≡ count (λ (e : IdBytes × Place). place_eq p e.1) (table_of id_cmp (λ x. x.place) t)
+pub spots_count : (t : BTreeMap IdBytes Placed) (g : Groups) → IsGrouped t g → (p : Place)
+    → length (entries (standing g p)) ≡ count (λ (e : IdBytes × Place). place_eq p e.1) (table_of id_cmp (λ x. x.place) t)
 spots_count t g is p = ap length (entries_are t g is p) ∙ tally_part (λ (e : IdBytes × Place). place_eq p e.1) (at_rank (table_of id_cmp (λ x. x.rank) t)) _
 
 -- ---- an element that leaves its list for another
-module _ (f h : Place → FinMap id_cmp ℕ) (e : IdBytes) (x : Placed) (to : Place) (was : (p : Place) → place_eq to p ≡ false → get (h p) e ≡ stood p (Some x)) where
+module _ (f h : Place → FinMap id_cmp ℕ) (e : IdBytes) (x : Placed) (to : Place)
+    (was : (p : Place) → place_eq to p ≡ false → get (h p) e ≡ stood p (Some x)) where
   pub out_of : f x.place ≡ set (h x.place) e None → ((p : Place) → place_eq x.place p ≡ false → f p ≡ h p)
       → (p : Place) → place_eq to p ≡ false → f p ≡ set (h p) e None
   out_of here there p else =

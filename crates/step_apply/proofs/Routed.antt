@@ -29,7 +29,8 @@ abbrev Out : Type 0
 Out = BTreeMap IdBytes (BTreeMap ℕ Ranks)
 
 -- by cases on whether the list is that of a and f
-pub by_list : (P : IdBytes → ℕ → Type 0) (a : IdBytes) (f : ℕ) → P a f → ((g : ℕ) → nat_eq f g ≡ false → P a g) → ((b : IdBytes) (g : ℕ) → text_eq a b ≡ false → P b g) → (b : IdBytes) (g : ℕ) → P b g
+pub by_list : (P : IdBytes → ℕ → Type 0) (a : IdBytes) (f : ℕ) → P a f → ((g : ℕ) → nat_eq f g ≡ false → P a g)
+    → ((b : IdBytes) (g : ℕ) → text_eq a b ≡ false → P b g) → (b : IdBytes) (g : ℕ) → P b g
 by_list P a f here beside there b g =
     elim (text_eq a b) as (λ t. text_eq a b ≡ t → P b g) [
       | true ↦ λ same. subst (λ z. P z g) (text_equality.exact a b same) (
@@ -46,15 +47,20 @@ own_row k b =
     ∙ (eq_by_cmp_equiv id_order.total).symm k.2 b
 
 beside_row : (k : RowKey) (g : ℕ) (b : IdBytes) → nat_eq k.1 g ≡ false → is_at (row_cmp k) (k.0, g, b) ≡ false
-beside_row k g b apart = not_so (is_at (row_cmp k) (k.0, g, b)) (λ t. true_false (nat_eq k.1 g) (ap (λ (z : RowKey). nat_eq k.1 z.1) (sym (same_key row_order k (k.0, g, b) t)) ∙ nat_equality.own k.1) apart)
+beside_row k g b apart =
+    not_so (is_at (row_cmp k) (k.0, g, b))
+    (λ t. true_false (nat_eq k.1 g) (ap (λ (z : RowKey). nat_eq k.1 z.1) (sym (same_key row_order k (k.0, g, b) t)) ∙ nat_equality.own k.1) apart)
 
 other_row : (k : RowKey) (a : IdBytes) (g : ℕ) (b : IdBytes) → text_eq k.0 a ≡ false → is_at (row_cmp k) (a, g, b) ≡ false
-other_row k a g b apart = not_so (is_at (row_cmp k) (a, g, b)) (λ t. true_false (text_eq k.0 a) (ap (λ (z : RowKey). text_eq k.0 z.0) (sym (same_key row_order k (a, g, b) t)) ∙ text_equality.own k.0) apart)
+other_row k a g b apart =
+    not_so (is_at (row_cmp k) (a, g, b))
+    (λ t. true_false (text_eq k.0 a) (ap (λ (z : RowKey). text_eq k.0 z.0) (sym (same_key row_order k (a, g, b) t)) ∙ text_equality.own k.0) apart)
 
 -- one row that is written, in all lists
 pub routed : (t n : BTreeMap RowKey ℕ) (o p : Out) (k : RowKey) (w : Option ℕ) → IsOut t o
     → ((q : RowKey) → tree.get row_cmp n q ≡ cond (is_at (row_cmp k) q) w (tree.get row_cmp t q))
-    → members_of p k.0 k.1 ≡ set (members_of o k.0 k.1) k.2 w → ((g : ℕ) → nat_eq k.1 g ≡ false → members_of p k.0 g ≡ members_of o k.0 g) → ((b : IdBytes) (g : ℕ) → text_eq k.0 b ≡ false → members_of p b g ≡ members_of o b g)
+    → members_of p k.0 k.1 ≡ set (members_of o k.0 k.1) k.2 w → ((g : ℕ) → nat_eq k.1 g ≡ false → members_of p k.0 g ≡ members_of o k.0 g)
+    → ((b : IdBytes) (g : ℕ) → text_eq k.0 b ≡ false → members_of p b g ≡ members_of o b g)
     → IsOut n p
 routed t n o p k w is wrote here beside there a f b =
     by_list (λ a f. get (members_of p a f) b ≡ cond (is_at (row_cmp k) (a, f, b)) w (get (members_of o a f) b)) k.0 k.1
@@ -66,8 +72,10 @@ routed t n o p k w is wrote here beside there a f b =
 
 -- what was put in is taken back
 pub out_undone : (t n : BTreeMap RowKey ℕ) (o p q : Out) (k : RowKey) (r : ℕ) → IsOut t o → n.entries ≡ t.entries → tree.get row_cmp t k ≡ None
-    → members_of p k.0 k.1 ≡ set (members_of o k.0 k.1) k.2 (Some r) → ((g : ℕ) → nat_eq k.1 g ≡ false → members_of p k.0 g ≡ members_of o k.0 g) → ((b : IdBytes) (g : ℕ) → text_eq k.0 b ≡ false → members_of p b g ≡ members_of o b g)
-    → members_of q k.0 k.1 ≡ set (members_of p k.0 k.1) k.2 None → ((g : ℕ) → nat_eq k.1 g ≡ false → members_of q k.0 g ≡ members_of p k.0 g) → ((b : IdBytes) (g : ℕ) → text_eq k.0 b ≡ false → members_of q b g ≡ members_of p b g)
+    → members_of p k.0 k.1 ≡ set (members_of o k.0 k.1) k.2 (Some r) → ((g : ℕ) → nat_eq k.1 g ≡ false → members_of p k.0 g ≡ members_of o k.0 g)
+    → ((b : IdBytes) (g : ℕ) → text_eq k.0 b ≡ false → members_of p b g ≡ members_of o b g)
+    → members_of q k.0 k.1 ≡ set (members_of p k.0 k.1) k.2 None → ((g : ℕ) → nat_eq k.1 g ≡ false → members_of q k.0 g ≡ members_of p k.0 g)
+    → ((b : IdBytes) (g : ℕ) → text_eq k.0 b ≡ false → members_of q b g ≡ members_of p b g)
     → IsOut n q
 out_undone t n o p q k r is same was here beside there back beside' there' a f b =
     ap (λ m. get m b) (
@@ -79,7 +87,8 @@ out_undone t n o p q k r is same was here beside there back beside' there' a f b
 
 -- nothing changed
 pub out_kept : (t : BTreeMap RowKey ℕ) (o p : Out) (k : RowKey) → IsOut t o → members_of p k.0 k.1 ≡ members_of o k.0 k.1
-    → ((g : ℕ) → nat_eq k.1 g ≡ false → members_of p k.0 g ≡ members_of o k.0 g) → ((b : IdBytes) (g : ℕ) → text_eq k.0 b ≡ false → members_of p b g ≡ members_of o b g) → IsOut t p
+    → ((g : ℕ) → nat_eq k.1 g ≡ false → members_of p k.0 g ≡ members_of o k.0 g)
+    → ((b : IdBytes) (g : ℕ) → text_eq k.0 b ≡ false → members_of p b g ≡ members_of o b g) → IsOut t p
 out_kept t o p k is here beside there a f b = ap (λ m. get m b) (by_list (λ a f. members_of p a f ≡ members_of o a f) k.0 k.1 here beside there a f) ∙ is a f b
 
 -- ---- lists
@@ -90,15 +99,19 @@ module _ (t : BTreeMap RowKey ℕ) (o : Out) (is : IsOut t o) (a : IdBytes) (f :
   second_is : (k : RowKey) → is_of a f k ≡ true → f ≡ k.1
   second_is k h = nat_equality.exact f k.1 (and_second _ _ h)
 
-  entries_held : entries (members_of o a f) ≡ map {B = IdBytes × ℕ} (λ (e : RowKey × ℕ). (e.0.2, e.1)) (filter (λ (e : RowKey × ℕ). is_of a f e.0) (entries (table row_cmp t)))
+  entries_held : entries (members_of o a f) ≡ map {B = IdBytes × ℕ} (λ (e : RowKey × ℕ). (e.0.2, e.1))
+      (filter (λ (e : RowKey × ℕ). is_of a f e.0) (entries (table row_cmp t)))
   entries_held =
       entries-part row_order id_order (λ (e : RowKey × ℕ). is_of a f e.0) (λ (e : RowKey × ℕ). (e.0.2, e.1)) (λ b. (a, f, b))
       (λ e d he hd less.
-      sym (λ i. ordering_then (ordering_then (like id_order.total (sym (first_is e.0 he) ∙ first_is d.0 hd) i) (like nat_order.total (sym (second_is e.0 he) ∙ second_is d.0 hd) i)) (id_cmp e.0.2 d.0.2)) ∙ less)
+      sym (λ i. ordering_then
+      (ordering_then (like id_order.total (sym (first_is e.0 he) ∙ first_is d.0 hd) i)
+      (like nat_order.total (sym (second_is e.0 he) ∙ second_is d.0 hd) i)) (id_cmp e.0.2 d.0.2)) ∙ less)
       (λ e he i. (first_is e.0 he i, second_is e.0 he i, e.0.2))
       (λ b x _. refl)
       (table row_cmp t) (members_of o a f)
-      (λ b. is a f b ∙ whole b (tree.get row_cmp t (a, f, b)) ∙ ap (part (λ (e : RowKey × ℕ). is_of a f e.0) (λ (e : RowKey × ℕ). (e.0.2, e.1)) (λ b. (a, f, b)) b) (sym (get-table row_order t (a, f, b))))
+      (λ b. is a f b ∙ whole b (tree.get row_cmp t (a, f, b))
+      ∙ ap (part (λ (e : RowKey × ℕ). is_of a f e.0) (λ (e : RowKey × ℕ). (e.0.2, e.1)) (λ b. (a, f, b)) b) (sym (get-table row_order t (a, f, b))))
     where
       like : {K : Type 0} {R : K → K → Ordering} → IsTotalOrder R → {x y : K} → x ≡ y → R x y ≡ Equal
       like {R = R} total {x = x} same = ap (R x) (sym same) ∙ tied_itself total x
@@ -114,5 +127,6 @@ pub targets_are : (t : BTreeMap RowKey ℕ) (o : Out) → IsOut t o → (a : IdB
     → map ranked_entry (entries (members_of o a f)) ≡ map row_entry (filter (λ (e : RowKey × ℕ). is_of a f e.0) (entries (table row_cmp t)))
 targets_are t o is a f = ap (map ranked_entry) (entries_held t o is a f) ∙ map_map ranked_entry (λ (e : RowKey × ℕ). (e.0.2, e.1)) _
 
-pub targets_count : (t : BTreeMap RowKey ℕ) (o : Out) → IsOut t o → (a : IdBytes) (f : ℕ) → length (entries (members_of o a f)) ≡ count (λ (e : RowKey × ℕ). is_of a f e.0) (table row_cmp t)
+pub targets_count : (t : BTreeMap RowKey ℕ) (o : Out) → IsOut t o → (a : IdBytes) (f : ℕ)
+    → length (entries (members_of o a f)) ≡ count (λ (e : RowKey × ℕ). is_of a f e.0) (table row_cmp t)
 targets_count t o is a f = ap length (entries_held t o is a f) ∙ tally_part (λ (e : RowKey × ℕ). is_of a f e.0) (λ (e : RowKey × ℕ). (e.0.2, e.1)) _

@@ -16,7 +16,8 @@ pub record Spots : Type 0 where
 
 -- the code of where elements stand
 abbrev pub spots_code : Coded Spots
-spots_code = code_by (FinMap id_cmp Place × FinMap id_cmp ℕ) (coded× (code coded_id place_type.the_row.coded) (code coded_id coded_ℕ)) (λ s. (s.place, s.rank)) (λ p. record { place = p.0; rank = p.1 }) (λ _. refl)
+spots_code = code_by (FinMap id_cmp Place × FinMap id_cmp ℕ) (coded× (code coded_id place_type.the_row.coded) (code coded_id coded_ℕ))
+    (λ s. (s.place, s.rank)) (λ p. record { place = p.0; rank = p.1 }) (λ _. refl)
 
 -- the values of each attribute that is set
 abbrev pub Values : Type 0
@@ -32,4 +33,5 @@ RowRanks = FinMap row_cmp ℕ
 
 -- the code of those ranks
 abbrev pub ranks_code : Coded RowRanks
-ranks_code = code (code_by (IdBytes × (ℕ × IdBytes)) (coded× coded_id (coded× coded_ℕ coded_id)) (λ k. (k.0, (k.1, k.2))) (λ p. (p.0, p.1.0, p.1.1)) (λ _. refl)) coded_ℕ
+ranks_code = code (code_by (IdBytes × (ℕ × IdBytes)) (coded× coded_id (coded× coded_ℕ coded_id)) (λ k. (k.0, (k.1, k.2))) (λ p. (p.0, p.1.0, p.1.1))
+    (λ _. refl)) coded_ℕ

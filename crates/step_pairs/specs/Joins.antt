@@ -17,7 +17,10 @@ step_eq (Unlink a f ra b rb) (Unlink a' f' ra' b' rb') = text_eq a a' && (nat_eq
 step_eq (RerankRow a f b old new) (RerankRow a' f' b' old' new') = text_eq a a' && (nat_eq f f' && (text_eq b b' && (nat_eq old old' && nat_eq new new')))
 step_eq (New e class place rank) (New e' class' place' rank') = text_eq e e' && (nat_eq class class' && (place_eq place place' && nat_eq rank rank'))
 step_eq (Gone e class place rank) (Gone e' class' place' rank') = text_eq e e' && (nat_eq class class' && (place_eq place place' && nat_eq rank rank'))
-step_eq (Move e from from_rank to to_rank above_from above_to) (Move e' from' from_rank' to' to_rank' above_from' above_to') = text_eq e e' && (place_eq from from' && (nat_eq from_rank from_rank' && (place_eq to to' && (nat_eq to_rank to_rank' && (list_eq text_eq above_from above_from' && list_eq text_eq above_to above_to')))))
+step_eq (Move e from from_rank to to_rank above_from above_to) (Move e' from' from_rank' to' to_rank' above_from' above_to') =
+    text_eq e e' && (place_eq from
+    from' && (nat_eq from_rank
+    from_rank' && (place_eq to to' && (nat_eq to_rank to_rank' && (list_eq text_eq above_from above_from' && list_eq text_eq above_to above_to')))))
 step_eq (RerankPlace e old new) (RerankPlace e' old' new') = text_eq e e' && (nat_eq old old' && nat_eq new new')
 step_eq s t = false
 

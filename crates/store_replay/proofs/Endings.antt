@@ -1,5 +1,6 @@
 -- How a replay ends, by the events that the file stands for.
-use Rattle.std.proofs.Common.{◌≡◌, ◌≢◌, ◌⊎◌, inl, inr, ⊎_elim, ℕ, ◌<◌, List, [], ◌∷◌, ◌++◌, Bool, true, false, if◌then◌else◌, length, map, refl, sym, ◌∙◌, ap, subst, append_assoc, append-nil, arith}
+use Rattle.std.proofs.Common.{◌≡◌, ◌≢◌, ◌⊎◌, inl, inr, ⊎_elim, ℕ, ◌<◌, List, [], ◌∷◌, ◌++◌, Bool, true, false, if◌then◌else◌, length, map, refl, sym}
+use Rattle.std.proofs.Common.{◌∙◌, ap, subst, append_assoc, append-nil, arith}
 use Rattle.std.specs.Prelude.{IsTrue}
 use Rattle.host_port.specs.Host.{Told, MayLeave, GoesOn, Throughout, KeepsSaid, KeepsInput, AddsPart, Rose, disk_now, said_now}
 use Rattle.host_port.proofs.Course.{adds_none, at_last, said_kept_now}
@@ -19,7 +20,8 @@ use Rattle.store_runs.specs.Endings.{NothingRose, session_status}
 use Rattle.store_runs.specs.declared.status.Status.{Status}
 use Rattle.store_runs.specs.declared.status.Status.TheVariants as ends
 use Rattle.store_replay.specs.Printing.{can_print, said_of, said_of_all}
-use Rattle.store_replay.specs.Endings.{EndsPrinted, IsFoundBroken, IsFoundUnprintable, IsReplay, IsToldInPart, IsUnopenedOrSame, IsWholeScript, KeepsStore, end_of_events}
+use Rattle.store_replay.specs.Endings.{EndsPrinted, IsFoundBroken, IsFoundUnprintable, IsReplay, IsToldInPart, IsUnopenedOrSame, IsWholeScript}
+use Rattle.store_replay.specs.Endings.{KeepsStore, end_of_events}
 use Rattle.store_replay.proofs.Scripts.{long_with_record, not-printable, said-front, said-stop}
 use Rattle.store_replay.proofs.Walking.{stands_first}
 

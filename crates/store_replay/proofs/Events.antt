@@ -1,11 +1,13 @@
 -- The lines of one event, made after it was played.
-use Rattle.std.proofs.Common.{◌≡◌, ◌≢◌, ◌⊎◌, inl, inr, ℕ, ◌+◌, ◌&&◌, not, List, [], Bool, true, false, Option, Some, None, Result, Ok, Err, if◌then◌else◌, refl, sym, ◌∙◌, ap, subst, arith}
+use Rattle.std.proofs.Common.{◌≡◌, ◌≢◌, ◌⊎◌, inl, inr, ℕ, ◌+◌, ◌&&◌, not, List, [], Bool, true, false, Option, Some, None, Result, Ok, Err}
+use Rattle.std.proofs.Common.{if◌then◌else◌, refl, sym, ◌∙◌, ap, subst, arith}
 use Rattle.std.specs.Prelude.{IsTrue, IfOk, OnOk, OnErr}
 use Rattle.std.specs.Result.{is_err}
 use Rattle.op_form.specs.declared.event.Event.{Event}
 use Rattle.op_form.specs.Events.{event_encoding}
 use Rattle.op_form.specs.Formed.{IsEvent}
-use Rattle.op_form.specs.declared.event.Event.TheVariants.{Init, Checkout, Edit, Begin, End, Undo, Discard, Tidy, Commit, Branch, Tag, Update, Merge, Drop, Evolve, Upgrade, Signed}
+use Rattle.op_form.specs.declared.event.Event.TheVariants.{Init, Checkout, Edit, Begin, End, Undo, Discard, Tidy, Commit, Branch, Tag, Update, Merge}
+use Rattle.op_form.specs.declared.event.Event.TheVariants.{Drop, Evolve, Upgrade, Signed}
 use Rattle.printed_items.specs.Printed.{printed_item}
 use Rattle.script_lang.specs.declared.reply.Refusal.{Refusal}
 use Rattle.script_lang.specs.declared.reply.Refusal.TheVariants as refusals

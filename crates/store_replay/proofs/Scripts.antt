@@ -1,5 +1,6 @@
 -- What is printed of events, one after another.
-use Rattle.std.proofs.Common.{◌≡◌, ℕ, ◌+◌, ◌≤◌, ◌<◌, ◌&&◌, not, min, List, [], ◌∷◌, ◌++◌, Bool, true, false, if◌then◌else◌, length, length-append, take, map, refl, sym, ◌∙◌, ap, subst, append_assoc, append-nil, arith}
+use Rattle.std.proofs.Common.{◌≡◌, ℕ, ◌+◌, ◌≤◌, ◌<◌, ◌&&◌, not, min, List, [], ◌∷◌, ◌++◌, Bool, true, false, if◌then◌else◌, length, length-append}
+use Rattle.std.proofs.Common.{take, map, refl, sym, ◌∙◌, ap, subst, append_assoc, append-nil, arith}
 use Rattle.std.specs.Prelude.{IsTrue}
 use Rattle.std.proofs.lemmas.List.{length-take, take-append-le, take_min}
 use Rattle.host_port.specs.Host.{AddsPart}

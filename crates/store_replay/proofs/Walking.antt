@@ -1,5 +1,6 @@
 -- How a store is read and printed: one event after another.
-use Rattle.std.proofs.Common.{◌≡◌, ◌≢◌, ◌⊎◌, inl, inr, ⊎_elim, ℕ, ◌<◌, List, [], ◌∷◌, ◌++◌, true, false, if◌then◌else◌, length, take, map, refl, sym, ◌∙◌, ap, subst, append_assoc, append-nil, arith}
+use Rattle.std.proofs.Common.{◌≡◌, ◌≢◌, ◌⊎◌, inl, inr, ⊎_elim, ℕ, ◌<◌, List, [], ◌∷◌, ◌++◌, true, false, if◌then◌else◌, length, take, map, refl, sym}
+use Rattle.std.proofs.Common.{◌∙◌, ap, subst, append_assoc, append-nil, arith}
 use Rattle.std.specs.Prelude.{IsTrue}
 use Rattle.host_port.specs.Host.{Told, Disk, MayLeave, GoesOn, Throughout, KeepsDisk, KeepsSaid, KeepsInput, AddsPart, Rose, disk_now, said_now}
 use Rattle.host_port.proofs.Course.{adds_none, at_last, carry_on, course_on, keeps_input_on, kept_now, said_kept_now, told_next, rose_second}
@@ -177,7 +178,8 @@ module _ (entry a b : Told) (opening : OpeningState) (walks : Walks entry a open
 
 -- ---- an event was read and played
 -- the event of the bytes, and the state after it
-abbrev pub is_played : (a b : Told) (old new : OpeningState) (bytes : List ℕ) (after : State) → PlaysEvent a b old new bytes → after ≡ new.state → IsPlayed after bytes
+abbrev pub is_played : (a b : Told) (old new : OpeningState) (bytes : List ℕ) (after : State) → PlaysEvent a b old new bytes → after ≡ new.state
+    → IsPlayed after bytes
 is_played a b old new bytes after plays is =
     record { before = old.state; event = plays.event; spelt = plays.spelt; made = record { could = plays.could; state_is = is ∙ plays.state_is } }
 

@@ -33,8 +33,10 @@ kept_too d made done answer stood = subst (λ (l : List Event). StandsForEvents 
 
 -- an answer's event was being written, and is kept or not
 pub unanswered : (entry b d : Told) (made : List Event) (task : Task) (done : List (Answer Event)) (answer : Answer Event) (next : List (Answer Event))
-    → task.answers ≡ (done ++ answer ∷ []) ++ next → said_now b ≡ said_now entry ++ replies done → GoesOn b d → KeepsSaid b d → IsTrue b.tells → IsSome answer.event
-    → StandsForEvents (disk_now d).now (made ++ events done) ⊎ StandsForEvents (disk_now d).now ((made ++ events done) ++ listed answer.event) → IsUnanswered task made entry d
+    → task.answers ≡ (done ++ answer ∷ []) ++ next → said_now b ≡ said_now entry ++ replies done → GoesOn b d → KeepsSaid b d → IsTrue b.tells
+    → IsSome answer.event
+    → StandsForEvents (disk_now d).now (made ++ events done) ⊎ StandsForEvents (disk_now d).now ((made ++ events done) ++ listed answer.event)
+    → IsUnanswered task made entry d
 unanswered entry b d made task done answer next whole said on quiet told_b event stood = record {
   done = done;
   answer = answer;

@@ -33,7 +33,8 @@ pub file_reads : (entry b : Told) → Throughout entry b (λ disk said. IsAtMost
 file_reads entry b moments told t low high = reads_same (disk_now entry) (b.disk t) (moments told t low high)
 
 halted_from : (task : Task) (first : List Event) (entry a b : Told) → said_now a ≡ said_now entry → IsHalted task first a b → IsHalted task first entry b
-halted_from task first entry a b same e = record { done = e.done; left = e.left; whole = e.whole; said = e.said ∙ ap (λ (l : List ℕ). l ++ replies e.done) same; stands = e.stands }
+halted_from task first entry a b same e =
+    record { done = e.done; left = e.left; whole = e.whole; said = e.said ∙ ap (λ (l : List ℕ). l ++ replies e.done) same; stands = e.stands }
 
 unsaid_from : (task : Task) (first : List Event) (entry a b : Told) → said_now a ≡ said_now entry → IsUnsaid task first a b → IsUnsaid task first entry b
 unsaid_from task first entry a b same e = record {
@@ -45,18 +46,35 @@ unsaid_from task first entry a b same e = record {
   stands = e.stands;
 }
 
-unanswered_from : (task : Task) (first : List Event) (entry a b : Told) → said_now a ≡ said_now entry → IsUnanswered task first a b → IsUnanswered task first entry b
-unanswered_from task first entry a b same e = record { done = e.done; answer = e.answer; left = e.left; whole = e.whole; event = e.event; said = e.said ∙ ap (λ (l : List ℕ). l ++ replies e.done) same; stands = e.stands }
+unanswered_from : (task : Task) (first : List Event) (entry a b : Told) → said_now a ≡ said_now entry → IsUnanswered task first a b
+    → IsUnanswered task first entry b
+unanswered_from task first entry a b same e =
+    record {
+      done = e.done;
+      answer = e.answer;
+      left = e.left;
+      whole = e.whole;
+      event = e.event;
+      said =
+          e.said ∙ ap (λ (l : List ℕ). l ++ replies e.done) same;
+      stands = e.stands;
+    }
 
-ends_from : (task : Task) (first : List Event) (entry a b : Told) → said_now a ≡ said_now entry → KeepsInput entry a → (status : Status) → Ends task first a b status → Ends task first entry b status
-ends_from task first entry a b same input Accepted e = (record { said = e.0.said ∙ ap (λ (l : List ℕ). l ++ replies task.answers) same; stands = e.0.stands }, e.1, e.2)
-ends_from task first entry a b same input Refused e = (record { said = e.0.said ∙ ap (λ (l : List ℕ). l ++ replies task.answers) same; stands = e.0.stands }, e.1, e.2)
-ends_from task first entry a b same input (Input fault at) e = (record { said = e.0.said ∙ ap (λ (l : List ℕ). l ++ replies task.answers) same; stands = e.0.stands }, e.1)
+ends_from : (task : Task) (first : List Event) (entry a b : Told) → said_now a ≡ said_now entry → KeepsInput entry a → (status : Status)
+    → Ends task first a b status → Ends task first entry b status
+ends_from task first entry a b same input Accepted e =
+    (record { said = e.0.said ∙ ap (λ (l : List ℕ). l ++ replies task.answers) same; stands = e.0.stands }, e.1, e.2)
+ends_from task first entry a b same input Refused e =
+    (record { said = e.0.said ∙ ap (λ (l : List ℕ). l ++ replies task.answers) same; stands = e.0.stands }, e.1, e.2)
+ends_from task first entry a b same input (Input fault at) e =
+    (record { said = e.0.said ∙ ap (λ (l : List ℕ). l ++ replies task.answers) same; stands = e.0.stands }, e.1)
 ends_from task first entry a b same input WriteFault e = unsaid_from task first entry a b same e
 ends_from task first entry a b same input (Damaged at) e = e
 ends_from task first entry a b same input BadWords e = e
 ends_from task first entry a b same input ReadFault e = (halted_from task first entry a b same e.0, e.1)
-ends_from task first entry a b same input DiskFault e = ⊎_elim (λ h. inl (record { said = h.said ∙ same; input = keeps_input_on entry a b input h.input; stands = h.stands })) (λ u. inr (unanswered_from task first entry a b same u)) e
+ends_from task first entry a b same input DiskFault e =
+    ⊎_elim (λ h. inl (record { said = h.said ∙ same; input = keeps_input_on entry a b input h.input; stands = h.stands }))
+    (λ u. inr (unanswered_from task first entry a b same u)) e
 ends_from task first entry a b same input Memory e = halted_from task first entry a b same e
 
 -- nothing was answered
@@ -70,17 +88,21 @@ none_answered task first entry a e = record {
 }
 
 -- the opening
-module _ (entry a : Told) (course : GoesOn entry a) (said : KeepsSaid entry a) (mounting : Throughout entry a (λ disk said. IsMounting (disk_now entry) disk)) (first : List Event) (stood : StandsForEvents (disk_now entry).now first) (task : Task) where
+module _ (entry a : Told) (course : GoesOn entry a) (said : KeepsSaid entry a)
+    (mounting : Throughout entry a (λ disk said. IsMounting (disk_now entry) disk)) (first : List Event)
+    (stood : StandsForEvents (disk_now entry).now first) (task : Task) where
   pub opening_part : Throughout entry a (λ disk said. AddsPart (said_now entry) (replies task.answers) said)
   opening_part = adds_none entry a (replies task.answers) said
 
-  pub opening_moments : Throughout entry a (IsOpenedRunning (disk_now entry) StandsForEvents first (events task.answers) (events_due task.answers) (said_now entry))
+  pub opening_moments : Throughout entry a
+      (IsOpenedRunning (disk_now entry) StandsForEvents first (events task.answers) (events_due task.answers) (said_now entry))
   opening_moments told t low high =
       let none : length (a.said t) - length (said_now entry) ≤ 0 = omega (arith, ap length (said told t low high)) in
       ⊎_elim
       (λ before. inl (before, said told t low high))
       (λ same. inr (λ x left. among StandsForEvents first task.answers [] task.answers x (length (a.said t) - length (said_now entry)) refl none
-      (subst (λ (l : List Event). StandsForEvents x l) (sym (append-nil first)) (record { forms = same x left (map event_encoding first) stood.forms; playable = stood.playable }))))
+      (subst (λ (l : List Event). StandsForEvents x l) (sym (append-nil first))
+      (record { forms = same x left (map event_encoding first) stood.forms; playable = stood.playable }))))
       (mounting told t low high)
 
   -- before the first line
@@ -95,7 +117,9 @@ module _ (entry a : Told) (course : GoesOn entry a) (said : KeepsSaid entry a) (
   }
 
 -- the opening, and then what the task asks for, which goes by the state of the store and the input
-module _ (entry a : Told) (course : GoesOn entry a) (said : KeepsSaid entry a) (mounting : Throughout entry a (λ disk said. IsMounting (disk_now entry) disk)) (first : List Event) (stood : StandsForEvents (disk_now entry).now first)
+module _ (entry a : Told) (course : GoesOn entry a) (said : KeepsSaid entry a)
+    (mounting : Throughout entry a (λ disk said. IsMounting (disk_now entry) disk)) (first : List Event)
+    (stood : StandsForEvents (disk_now entry).now first)
     (b : Told) (input : KeepsInput entry a) (on : GoesOn a b) (now : State) (asked : State → List ℕ → Task)
     (opened : IsTrue entry.tells → (made : List Event) × IsStoreOf (disk_now a) now made × StandsForEvents (disk_now entry).now made) where
   holds_first : IsTrue entry.tells → IsStoreOf (disk_now a) now first
@@ -116,41 +140,53 @@ module _ (entry a : Told) (course : GoesOn entry a) (said : KeepsSaid entry a) (
 
   pub whole_part : (status : Status) → ((made : List Event) → IsStoreOf (disk_now a) now made → IsDone (asked now a.left) made a b status)
       → Throughout entry b (λ disk said. AddsPart (said_now entry) (replies (asked (played play empty first) entry.left).answers) said)
-  whole_part status done told = carry_on entry a b (λ disk said. AddsPart (said_now entry) (replies (asked (played play empty first) entry.left).answers) said) course on
+  whole_part status done told =
+      carry_on entry a b (λ disk said. AddsPart (said_now entry) (replies (asked (played play empty first) entry.left).answers) said) course on
       (opening_part entry a course said mounting first stood (asked (played play empty first) entry.left))
       (subst (λ (l : List ℕ). Throughout a b (λ disk said. AddsPart l (replies (asked (played play empty first) entry.left).answers) said)) (said_is told)
-      (subst (λ (t : Task). Throughout a b (λ disk said. AddsPart (said_now a) (replies t.answers) said)) (task_is told) (done first (holds_first told)).part)) told
+      (subst (λ (t : Task). Throughout a b (λ disk said. AddsPart (said_now a) (replies t.answers) said)) (task_is told)
+      (done first (holds_first told)).part)) told
 
   pub whole_moments : (status : Status) → ((made : List Event) → IsStoreOf (disk_now a) now made → IsDone (asked now a.left) made a b status)
-      → Throughout entry b (IsOpenedRunning (disk_now entry) StandsForEvents first (events (asked (played play empty first) entry.left).answers) (events_due (asked (played play empty first) entry.left).answers) (said_now entry))
+      → Throughout entry b (IsOpenedRunning (disk_now entry) StandsForEvents first (events (asked (played play empty first) entry.left).answers)
+      (events_due (asked (played play empty first) entry.left).answers) (said_now entry))
   whole_moments status done told = carry_on entry a b
-      (IsOpenedRunning (disk_now entry) StandsForEvents first (events (asked (played play empty first) entry.left).answers) (events_due (asked (played play empty first) entry.left).answers) (said_now entry)) course on
+      (IsOpenedRunning (disk_now entry) StandsForEvents first (events (asked (played play empty first) entry.left).answers)
+      (events_due (asked (played play empty first) entry.left).answers) (said_now entry)) course on
       (opening_moments entry a course said mounting first stood (asked (played play empty first) entry.left))
       (λ told_a t low high. inr (
-      subst (λ (l : List ℕ). Throughout a b (IsRunning StandsForEvents first (events (asked (played play empty first) entry.left).answers) (events_due (asked (played play empty first) entry.left).answers) l)) (said_is told)
-      (subst (λ (t : Task). Throughout a b (IsRunning StandsForEvents first (events t.answers) (events_due t.answers) (said_now a))) (task_is told) (done first (holds_first told)).moments) told_a t low high)) told
+      subst (λ (l : List ℕ).
+      Throughout a b (IsRunning StandsForEvents first (events (asked (played play empty first) entry.left).answers)
+      (events_due (asked (played play empty first) entry.left).answers) l)) (said_is told)
+      (subst (λ (t : Task). Throughout a b (IsRunning StandsForEvents first (events t.answers) (events_due t.answers) (said_now a))) (task_is told)
+      (done first (holds_first told)).moments) told_a t low high)) told
 
   -- where the task makes no event, the disk is synced at most
   pub whole_still : (17 < length (disk_now entry).now → Throughout entry a (λ disk said. IsAtMostSynced (disk_now entry) disk))
       → (status : Status) → ((made : List Event) → IsStoreOf (disk_now a) now made → IsDone (asked now a.left) made a b status)
-      → events (asked (played play empty first) entry.left).answers ≡ [] → 17 < length (disk_now entry).now → Throughout entry b (λ disk said. IsAtMostSynced (disk_now entry) disk)
+      → events (asked (played play empty first) entry.left).answers ≡ [] → 17 < length (disk_now entry).now
+      → Throughout entry b (λ disk said. IsAtMostSynced (disk_now entry) disk)
   whole_still opening status done none long told = carry_on entry a b (λ disk said. IsAtMostSynced (disk_now entry) disk) course on (opening long)
       (λ told_a t low high. subst (IsAtMostSynced (disk_now entry))
       (sym ((done first (holds_first told)).still (subst (λ (t : Task). events t.answers ≡ []) (sym (task_is told)) none) told_a t low high))
       (at_last entry a (λ disk said. IsAtMostSynced (disk_now entry) disk) course (opening long) told)) told
 
 -- what stands in the file at the end of a run
-pub stopped : (entry b : Told) (first : List Event) (task : Task) → GoesOn entry b → Throughout entry b (IsOpenedRunning (disk_now entry) StandsForEvents first (events task.answers) (events_due task.answers) (said_now entry))
+pub stopped : (entry b : Told) (first : List Event) (task : Task) → GoesOn entry b
+    → Throughout entry b (IsOpenedRunning (disk_now entry) StandsForEvents first (events task.answers) (events_due task.answers) (said_now entry))
     → StandsForEvents (disk_now entry).now first → MayLeave (disk_now b) (disk_now b).now → IsTrue entry.tells → IsKept task first entry b
 stopped entry b first task course moments stood left told = ⊎_elim
-    (λ before. among StandsForEvents first task.answers [] task.answers (disk_now b).now (length (said_now b) - length (said_now entry)) refl (omega (arith, ap length before.1))
+    (λ before. among StandsForEvents first task.answers [] task.answers (disk_now b).now (length (said_now b) - length (said_now entry)) refl
+    (omega (arith, ap length before.1))
     (subst (λ (l : List Event). StandsForEvents (disk_now b).now l) (sym (append-nil first)) (subst (λ d. StandsForEvents d.now first) (sym before.0) stood)))
     (λ running. running (disk_now b).now left)
-    (at_last entry b (IsOpenedRunning (disk_now entry) StandsForEvents first (events task.answers) (events_due task.answers) (said_now entry)) course moments told)
+    (at_last entry b (IsOpenedRunning (disk_now entry) StandsForEvents first (events task.answers) (events_due task.answers) (said_now entry)) course
+    moments told)
 
 -- where nothing rose, the run comes to what its task comes to
 pub complete : (task : Task) (first : List Event) (entry b : Told) (status : Status) → Ends task first entry b status → NothingRose entry b
-    → (status ≡ ReadFault → Rose entry.take_faults b.take_faults) → (status ≡ WriteFault → Rose entry.say_faults b.say_faults) → (status ≡ DiskFault → Rose entry.disk_faults b.disk_faults)
+    → (status ≡ ReadFault → Rose entry.take_faults b.take_faults) → (status ≡ WriteFault → Rose entry.say_faults b.say_faults)
+    → (status ≡ DiskFault → Rose entry.disk_faults b.disk_faults)
     → (status ≡ task.end) ⊎ (status ≡ Memory)
 complete task first entry b Accepted e none read write disk = inl (sym e.1)
 complete task first entry b Refused e none read write disk = inl (sym e.1)
@@ -165,30 +201,43 @@ complete task first entry b Memory e none read write disk = inr refl
 -- a store that was not opened
 module _ (entry a : Told) (fault : SessionFault) (never : fault ≡ session.SayFault → ⊥)
     (damage : AtDamage fault (λ at. IsTrue entry.tells → IsDamaged (disk_now entry).now at × StandsForNoEvents (disk_now entry).now)) where
-  pub unopened_ends : (task : Task) (first : List Event) → IsTrue entry.tells → StandsForEvents (disk_now entry).now first → IsUnopened first entry a → Ends task first entry a (session_status fault)
+  pub unopened_ends : (task : Task) (first : List Event) → IsTrue entry.tells → StandsForEvents (disk_now entry).now first → IsUnopened first entry a
+      → Ends task first entry a (session_status fault)
   unopened_ends task first told stood ended = go fault never damage
     where
-      go : (f : SessionFault) → (f ≡ session.SayFault → ⊥) → AtDamage f (λ at. IsTrue entry.tells → IsDamaged (disk_now entry).now at × StandsForNoEvents (disk_now entry).now) → Ends task first entry a (session_status f)
+      go : (f : SessionFault) → (f ≡ session.SayFault → ⊥)
+          → AtDamage f (λ at. IsTrue entry.tells → IsDamaged (disk_now entry).now at × StandsForNoEvents (disk_now entry).now)
+          → Ends task first entry a (session_status f)
       go session.DiskFault n d = inl ended
       go session.SayFault n d = absurd (n refl)
       go (session.Damaged at) n d = (d told).1 first stood
       go session.Memory n d = none_answered task first entry a ended
 
-  pub unopened_damaged : (17 < length (disk_now entry).now → Throughout entry a (λ disk said. IsAtMostSynced (disk_now entry) disk)) → KeepsSaid entry a → KeepsInput entry a → (at : ℕ) → session_status fault ≡ Damaged at → IsFoundDamaged entry a at
+  pub unopened_damaged : (17 < length (disk_now entry).now → Throughout entry a (λ disk said. IsAtMostSynced (disk_now entry) disk))
+      → KeepsSaid entry a → KeepsInput entry a → (at : ℕ) → session_status fault ≡ Damaged at → IsFoundDamaged entry a at
   unopened_damaged long said input at is = go fault damage is
     where
-      go : (f : SessionFault) → AtDamage f (λ at. IsTrue entry.tells → IsDamaged (disk_now entry).now at × StandsForNoEvents (disk_now entry).now) → session_status f ≡ Damaged at → IsFoundDamaged entry a at
+      go : (f : SessionFault) → AtDamage f (λ at. IsTrue entry.tells → IsDamaged (disk_now entry).now at × StandsForNoEvents (disk_now entry).now)
+          → session_status f ≡ Damaged at → IsFoundDamaged entry a at
       go session.DiskFault d e = absurd cc
       go session.SayFault d e = absurd cc
       go (session.Damaged b) d e =
           let same : b ≡ at = cc in
-          record { place = λ told. subst (λ (n : ℕ). IsDamaged (disk_now entry).now n) same (d told).0; no_events = λ told. (d told).1; file = λ told. file_reads entry a (long (is_long (disk_now entry).now (d told).1)) told; said = said; input = input }
+          record {
+            place = λ told. subst (λ (n : ℕ). IsDamaged (disk_now entry).now n) same (d told).0;
+            no_events = λ told. (d told).1;
+            file =
+                λ told. file_reads entry a (long (is_long (disk_now entry).now (d told).1)) told;
+            said = said;
+            input = input;
+          }
       go session.Memory d e = absurd cc
 
   pub unopened_damages : ((at : ℕ) × (session_status fault ≡ Damaged at)) ⊎ (session_status fault ≡ DiskFault) ⊎ (session_status fault ≡ Memory)
   unopened_damages = go fault never
     where
-      go : (f : SessionFault) → (f ≡ session.SayFault → ⊥) → ((at : ℕ) × (session_status f ≡ Damaged at)) ⊎ (session_status f ≡ DiskFault) ⊎ (session_status f ≡ Memory)
+      go : (f : SessionFault) → (f ≡ session.SayFault → ⊥)
+          → ((at : ℕ) × (session_status f ≡ Damaged at)) ⊎ (session_status f ≡ DiskFault) ⊎ (session_status f ≡ Memory)
       go session.DiskFault n = inr (inl refl)
       go session.SayFault n = absurd (n refl)
       go (session.Damaged at) n = inl (at, refl)

@@ -32,16 +32,20 @@ module _ (entry b d : Told) (made : List Event) (task : Task) (state : State) (l
   }
 
   printed_part : Throughout entry d (λ disk said. AddsPart (said_now entry) (replies task.answers) said)
-  printed_part = stepped_part StandsForEvents entry made task.answers b d (telling_one line refused ∷ []) (λ events. IsStoreOf (disk_now b) state events) going course (telling_one line refused) [] refl steps
+  printed_part = stepped_part StandsForEvents entry made task.answers b d (telling_one line refused ∷ [])
+      (λ events. IsStoreOf (disk_now b) state events) going course (telling_one line refused) [] refl steps
 
   printed_moments : Throughout entry d (IsRunning StandsForEvents made (events task.answers) (events_due task.answers) (said_now entry))
-  printed_moments = stepped_moments StandsForEvents entry made task.answers b d (telling_one line refused ∷ []) (λ events. IsStoreOf (disk_now b) state events) going course (telling_one line refused) [] refl steps
+  printed_moments = stepped_moments StandsForEvents entry made task.answers b d (telling_one line refused ∷ [])
+      (λ events. IsStoreOf (disk_now b) state events) going course (telling_one line refused) [] refl steps
 
   printed_still : events task.answers ≡ [] → KeepsDisk entry d
-  printed_still = stepped_still StandsForEvents entry made task.answers b d (telling_one line refused ∷ []) (λ events. IsStoreOf (disk_now b) state events) going course (telling_one line refused) [] refl steps
+  printed_still = stepped_still StandsForEvents entry made task.answers b d (telling_one line refused ∷ [])
+      (λ events. IsStoreOf (disk_now b) state events) going course (telling_one line refused) [] refl steps
 
   whole : task.answers ≡ (going.done ++ telling_one line refused ∷ []) ++ []
-  whole = answers_more StandsForEvents entry made task.answers b d (telling_one line refused ∷ []) (λ events. IsStoreOf (disk_now b) state events) going course (telling_one line refused) [] refl steps
+  whole = answers_more StandsForEvents entry made task.answers b d (telling_one line refused ∷ [])
+      (λ events. IsStoreOf (disk_now b) state events) going course (telling_one line refused) [] refl steps
 
   stays : IsTrue b.tells → (events : List Event) → IsStoreOf (disk_now b) state events → IsStoreOf (disk_now d) state events
   stays told events holds = subst (λ x. IsStoreOf x state events) (sym (kept_now b d on disk told)) holds
@@ -49,13 +53,15 @@ module _ (entry b d : Told) (made : List Event) (task : Task) (state : State) (l
   -- all of it was printed
   printed : IsTrue b.tells → said_now d ≡ said_now b ++ bytes → IsServed task made entry d
   printed told said =
-      let more = one_more StandsForEvents entry made task.answers b d (telling_one line refused ∷ []) (λ events. IsStoreOf (disk_now b) state events) going course (telling_one line refused) [] refl steps
+      let more = one_more StandsForEvents entry made task.answers b d (telling_one line refused ∷ [])
+      (λ events. IsStoreOf (disk_now b) state events) going course (telling_one line refused) [] refl steps
       (λ events. IsStoreOf (disk_now d) state events) (said ∙ ap (λ (l : List ℕ). said_now b ++ l) bytes_are)
       (λ made holds. stays told (made ++ []) (none_added (disk_now b) state made holds)) in
       let all : task.answers ≡ more.done = more.whole_is ∙ append-nil more.done in
       record {
         said = more.said ∙ ap (λ (l : List (Answer Event)). said_now entry ++ replies l) (sym all);
-        stands = subst (λ (l : List (Answer Event)). StandsForEvents (disk_now d).now (made ++ events l)) (sym all) (holds_stands (disk_now d) state (made ++ events more.done) more.rest);
+        stands = subst (λ (l : List (Answer Event)). StandsForEvents (disk_now d).now (made ++ events l)) (sym all)
+            (holds_stands (disk_now d) state (made ++ events more.done) more.rest);
       }
 
   -- or a part of it
@@ -66,12 +72,14 @@ module _ (entry b d : Told) (made : List Event) (task : Task) (state : State) (l
     left = [];
     whole = whole;
     said = subst (λ (l : List ℕ). AddsPart l line (said_now d)) going.said (at_last b d (λ disk said. AddsPart (said_now b) line said) on line_part told);
-    stands = subst (λ (l : List Event). StandsForEvents (disk_now d).now (made ++ l)) (sym (append-nil (events going.done)) ∙ sym (events-more going.done (telling_one line refused)))
+    stands = subst (λ (l : List Event). StandsForEvents (disk_now d).now (made ++ l))
+        (sym (append-nil (events going.done)) ∙ sym (events-more going.done (telling_one line refused)))
         (holds_stands (disk_now d) state (made ++ events going.done) (stays told (made ++ events going.done) going.rest));
   }
 
 module _ (entry b d : Told) (made : List Event) (task : Task) (state : State) (line bytes : List ℕ) (bytes_are : bytes ≡ line) (refused : Bool)
-    (going : IsTrue entry.tells → Going StandsForEvents entry b made task.answers (telling_one line refused ∷ []) (λ events. IsStoreOf (disk_now b) state events))
+    (going : IsTrue entry.tells
+    → Going StandsForEvents entry b made task.answers (telling_one line refused ∷ []) (λ events. IsStoreOf (disk_now b) state events))
     (course : GoesOn entry b) (on : GoesOn b d) (disk : KeepsDisk b d) (part : Throughout b d (λ disk said. AddsPart (said_now b) bytes said)) where
   told_b : IsTrue entry.tells → IsTrue b.tells
   told_b told = told_next entry b course told

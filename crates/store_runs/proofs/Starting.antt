@@ -21,7 +21,8 @@ use Rattle.store_runs.proofs.Halting.{halted}
 pub from_start : (rule : State → Item → Answer Event) (s : State) (input : List ℕ) (place : ℕ) (pending : List ℕ) → place ≡ 0 → pending ≡ []
     → serving_by rule s (script_from takes_block place (pending ++ input)) ≡ serving_by rule s (script input)
 from_start rule s input place pending place_is pending_is =
-    ap (λ (n : ℕ). serving_by rule s (script_from takes_block n (pending ++ input))) place_is ∙ ap (λ (l : List ℕ). serving_by rule s (script_from takes_block 0 (l ++ input))) pending_is
+    ap (λ (n : ℕ). serving_by rule s (script_from takes_block n (pending ++ input))) place_is
+    ∙ ap (λ (l : List ℕ). serving_by rule s (script_from takes_block 0 (l ++ input))) pending_is
 
 module _ (a : Told) (state : State) (task : Task) (made : List Event) (holds : IsStoreOf (disk_now a) state made) where
   pub at_start : Going StandsForEvents a a made task.answers task.answers (λ events. IsStoreOf (disk_now a) state events)
@@ -29,4 +30,10 @@ module _ (a : Told) (state : State) (task : Task) (made : List Event) (holds : I
 
   -- memory runs out there
   pub nothing_done : IsDone task made a a Memory
-  nothing_done = record { ends = λ told. halted a a made task task.answers state at_start; part = at_start.part; moments = at_start.moments; still = λ none. still_disk a }
+  nothing_done = record {
+    ends = λ told. halted a a made task task.answers state at_start;
+    part = at_start.part;
+    moments = at_start.moments;
+    still =
+        λ none. still_disk a;
+  }

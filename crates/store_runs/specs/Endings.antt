@@ -54,7 +54,9 @@ pub record IsHalted (task : Task) (first : List Event) (before now : Told) : Typ
 
 -- the file stands for the first events and some of those of the task, none in part, with all whose reply was begun
 abbrev pub IsKept : Task → List Event → Told → Told → Type 0
-IsKept task first before now = StandsForAtLeast StandsForEvents first (events task.answers) (events_due task.answers (length (said_now now) - length (said_now before))) (disk_now now).now
+IsKept task first before now =
+    StandsForAtLeast StandsForEvents first (events task.answers) (events_due task.answers (length (said_now now) - length (said_now before)))
+    (disk_now now).now
 
 -- A run ends so, where the file stood for the first events. A disk fault comes while the store is opened, or while an
 -- answer's event is on its way.

@@ -38,7 +38,8 @@ end_of None false = Accepted
 
 -- a script is served: each of its items is answered, by this rule
 abbrev pub serving_by : (State → Item → Answer Event) → State → Script → Task
-serving_by rule s commands = record { answers = answers rule play s commands.items; end = end_of commands.fault (refuses (answers rule play s commands.items)); reads = true }
+serving_by rule s commands =
+    record { answers = answers rule play s commands.items; end = end_of commands.fault (refuses (answers rule play s commands.items)); reads = true }
 
 -- a script is served: each of its items is answered
 abbrev pub serving : State → Script → Task

@@ -22,7 +22,9 @@ module _ (a b : Told) (s : State) (answer : Answer Event) (course : GoesOn a b) 
       (part : Throughout b d (λ disk said. AddsPart (said_now b) reply said))
       (added : IsTrue a.tells → (made : List Event) → IsStoreOf (disk_now a) s made → IsStoreOf (disk_now b) now (made ++ listed answer.event)) where
     pub said_added : IsTrue a.tells → (made : List Event) → IsStoreOf (disk_now a) s made → IsStoreOf (disk_now d) now (made ++ listed answer.event)
-    said_added told made holds = subst (λ (x : Disk). IsStoreOf x now (made ++ listed answer.event)) (sym (kept_now b d on disk (told_next a b course told))) (added told made holds)
+    said_added told made holds =
+        subst (λ (x : Disk). IsStoreOf x now (made ++ listed answer.event)) (sym (kept_now b d on disk (told_next a b course told)))
+        (added told made holds)
 
     pub said_moments : (made : List Event) → IsStoreOf (disk_now a) s made → Throughout a d (IsStepping StandsForEvents made answer.event (said_now a))
     said_moments made holds told = carry_on a b d (IsStepping StandsForEvents made answer.event (said_now a)) course on (entered_moments made holds)
@@ -33,4 +35,6 @@ module _ (a b : Told) (s : State) (answer : Answer Event) (course : GoesOn a b) 
         (say_part b d (said_now a) reply answer.reply reply_is (λ told_b. said_kept_now a b course said told) part) told
 
     pub said_whole : (IsTrue b.tells → said_now d ≡ said_now b ++ reply) → IsTrue a.tells → said_now d ≡ said_now a ++ answer.reply
-    said_whole whole told = whole (told_next a b course told) ∙ ap (λ (l : List ℕ). l ++ reply) (said_kept_now a b course said told) ∙ ap (λ (l : List ℕ). said_now a ++ l) reply_is
+    said_whole whole told =
+        whole (told_next a b course told) ∙ ap (λ (l : List ℕ). l ++ reply) (said_kept_now a b course said told)
+        ∙ ap (λ (l : List ℕ). said_now a ++ l) reply_is

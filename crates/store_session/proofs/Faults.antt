@@ -30,12 +30,16 @@ not_made SayFault P is = absurd (not_said SayFault is (λ i. SayFault))
 not_made (Damaged at) P is = absurd (not_damaged (Damaged at) is at (λ i. Damaged at))
 
 -- a session that is still whole is as it was
-pub unbroken_end : (fault : SessionFault) → (fault ≡ DiskFault) ⊎ (fault ≡ Memory) → (repo repo_new : State) (end end_new : ℕ) (broken_new : Bool) → repo.end ≡ end → broken_new ≡ false
+pub unbroken_end : (fault : SessionFault) → (fault ≡ DiskFault) ⊎ (fault ≡ Memory) → (repo repo_new : State) (end end_new : ℕ) (broken_new : Bool)
+    → repo.end ≡ end → broken_new ≡ false
     → (fault ≡ DiskFault → broken_new ≡ true) → (fault ≡ Memory → repo_new ≡ repo) → (fault ≡ Memory → end_new ≡ end) → repo_new.end ≡ end_new
-unbroken_end fault (inl disk) repo repo_new end end_new broken_new at whole broken same_repo same_end = let other : false ≡ true = sym whole ∙ broken disk in absurd cc
-unbroken_end fault (inr memory) repo repo_new end end_new broken_new at whole broken same_repo same_end = ap (λ (s : State). s.end) (same_repo memory) ∙ at ∙ sym (same_end memory)
+unbroken_end fault (inl disk) repo repo_new end end_new broken_new at whole broken same_repo same_end = let other : false ≡ true =
+    sym whole ∙ broken disk in absurd cc
+unbroken_end fault (inr memory) repo repo_new end end_new broken_new at whole broken same_repo same_end =
+    ap (λ (s : State). s.end) (same_repo memory) ∙ at ∙ sym (same_end memory)
 
 -- a session of the same parts
 pub same_view : (repo repo_new : State) (journal journal_new : JournalState) → repo_new ≡ repo → journal_new ≡ journal
-    → let new : SessionState = record { state = repo_new; end = journal_new.end; broken = journal_new.broken } in let old : SessionState = record { state = repo; end = journal.end; broken = journal.broken } in new ≡ old
+    → let new : SessionState = record { state = repo_new; end = journal_new.end; broken = journal_new.broken }
+    in let old : SessionState = record { state = repo; end = journal.end; broken = journal.broken } in new ≡ old
 same_view repo repo_new journal journal_new one two = λ i. record { state = one i; end = (two i).end; broken = (two i).broken }

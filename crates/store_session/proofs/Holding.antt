@@ -1,5 +1,6 @@
 -- The frames that are out of the pool: those that the cache holds, and those of a record.
-use Rattle.std.proofs.Common.{◌≡◌, ◌⊎◌, inl, inr, ℕ, zero, suc, ◌+◌, ◌≤◌, List, [], ◌∷◌, length, take, Option, Some, None, Result, Ok, Err, refl, sym, ◌∙◌, ap, subst, arith}
+use Rattle.std.proofs.Common.{◌≡◌, ◌⊎◌, inl, inr, ℕ, zero, suc, ◌+◌, ◌≤◌, List, [], ◌∷◌, length, take, Option, Some, None, Result, Ok, Err, refl, sym}
+use Rattle.std.proofs.Common.{◌∙◌, ap, subst, arith}
 use Rattle.std.specs.Prelude.{OnErr}
 use Rattle.ecore_meta.specs.Meta.{Meta}
 use Rattle.page_pool.specs.Frames.{Frames, frame_at, out_of, SameFrames, pool_limit}
@@ -37,15 +38,18 @@ none_taken zero es is = refl
 none_taken (suc k) [] is = refl
 none_taken (suc k) (e ∷ es) is = absurd cc
 
-none_yielded : (m : Option Meta) (h : History) (p q : Frames) (n : ℕ) (old new : Entries) → IsYielded p q n old new → AreForms m h (stands p old) → AreForms m h (stands q new)
-none_yielded None h p q n old new yielded none = ap (λ (es : Entries). stands q es) (yielded.kept.first ∙ none_taken yielded.kept.count old (none_stand p old none))
+none_yielded : (m : Option Meta) (h : History) (p q : Frames) (n : ℕ) (old new : Entries) → IsYielded p q n old new → AreForms m h (stands p old)
+    → AreForms m h (stands q new)
+none_yielded None h p q n old new yielded none =
+    ap (λ (es : Entries). stands q es) (yielded.kept.first ∙ none_taken yielded.kept.count old (none_stand p old none))
 none_yielded (Some meta) h p q n old new yielded forms = all_yielded (IsVersionForm meta h) p q n old new yielded forms
 
 pub forms_yielded : (s : State) (p q : Frames) (n : ℕ) (old new : Entries) → IsYielded p q n old new → HasForms s p old → HasForms s q new
 forms_yielded s p q n old new yielded forms = none_yielded s.meta s.history p q n old new yielded forms
 
 -- so many frames can be out then as a record takes
-pub room_made : (p q : Frames) (n size : ℕ) (old new : Entries) → HoldsAll p old → IsYielded p q n old new → n ≡ frames_for (size + 5) → size ≤ most_bytes → out_of q + frames_for (size + 5) ≤ pool_limit
+pub room_made : (p q : Frames) (n size : ℕ) (old new : Entries) → HoldsAll p old → IsYielded p q n old new → n ≡ frames_for (size + 5)
+    → size ≤ most_bytes → out_of q + frames_for (size + 5) ≤ pool_limit
 room_made p q n size old new all yielded is short = by yielded.enough
   where
     by : (out_of q + n ≤ pool_limit) ⊎ (new ≡ []) → out_of q + frames_for (size + 5) ≤ pool_limit
@@ -55,13 +59,15 @@ room_made p q n size old new all yielded is short = by yielded.enough
         omega (arith, none_held, all.count, yielded.out_before, yielded.out_after, short)
 
 -- and no entry went that there was room for
-pub record_left : (p q : Frames) (n size : ℕ) (old new : Entries) → HoldsAll p old → IsYielded p q n old new → n ≡ frames_for (size + 5) → LeavesRecord size old new
+pub record_left : (p q : Frames) (n size : ℕ) (old new : Entries) → HoldsAll p old → IsYielded p q n old new → n ≡ frames_for (size + 5)
+    → LeavesRecord size old new
 record_left p q n size old new all yielded is = record {
   count = yielded.kept.count;
   first = yielded.kept.first;
   no_more = λ less fits.
       let room : length (held (take (suc yielded.kept.count) old)) + frames_for (size + 5) ≤ pool_limit = fits in
-      let enough : yielded.others + length (held (take (suc yielded.kept.count) old)) + n ≤ pool_limit = omega (arith, all.count, yielded.out_before, is, room) in
+      let enough : yielded.others + length (held (take (suc yielded.kept.count) old)) + n ≤ pool_limit =
+      omega (arith, all.count, yielded.out_before, is, room) in
       yielded.kept.no_more less enough;
 }
 
@@ -76,7 +82,8 @@ all_alike p q c all same out = record { out = all_kept p q (held c) (λ k among.
 -- ---- the cache and a record
 module _ (p q : Frames) (c : Entries) (prepared : PagedState) where
   -- a record was made in frames that were free
-  module _ (form : List ℕ) (all : HoldsAll p c) (holds : HoldsRecord q prepared form) (fresh : AreFree p prepared.frames) (others : KeepsOthers p q prepared.frames) (out : out_of q ≡ out_of p + frames_for (length form + 5)) where
+  module _ (form : List ℕ) (all : HoldsAll p c) (holds : HoldsRecord q prepared form) (fresh : AreFree p prepared.frames)
+      (others : KeepsOthers p q prepared.frames) (out : out_of q ≡ out_of p + frames_for (length form + 5)) where
     not_fresh : (k : ℕ) → IsAmong k prepared.frames → ¬ IsAmong k (held c)
     not_fresh k among held' = out_not_free p k (out_each p (held c) k all.out held') (fresh k among)
 
@@ -94,7 +101,8 @@ module _ (p q : Frames) (c : Entries) (prepared : PagedState) where
     made_same = stands_kept p q c kept
 
   -- its frames were given back
-  module _ (both : HoldsBoth p c (Some prepared)) (free : AreFree q prepared.frames) (others : KeepsOthers p q prepared.frames) (out : out_of q + length prepared.frames ≡ out_of p) where
+  module _ (both : HoldsBoth p c (Some prepared)) (free : AreFree q prepared.frames) (others : KeepsOthers p q prepared.frames)
+      (out : out_of q + length prepared.frames ≡ out_of p) where
     left : (k : ℕ) → IsAmong k (held c) → frame_at q k ≡ frame_at p k
     left k among = others k (λ record_too. both.apart k record_too among)
 
@@ -112,11 +120,13 @@ both_none p c (Some prepared) is both = absurd cc
 pub none_both : (p : Frames) (c : Entries) → HoldsAll p c → HoldsBoth p c None
 none_both p c all = record { out = all.out; apart = tt; count = omega (arith, all.count) }
 
-pub both_some : (p : Frames) (c : Entries) (ready : Option PagedState) (prepared : PagedState) → ready ≡ Some prepared → HoldsBoth p c ready → HoldsBoth p c (Some prepared)
+pub both_some : (p : Frames) (c : Entries) (ready : Option PagedState) (prepared : PagedState) → ready ≡ Some prepared → HoldsBoth p c ready
+    → HoldsBoth p c (Some prepared)
 both_some p c ready prepared is both = subst (λ (o : Option PagedState). HoldsBoth p c o) is both
 
 -- a call that uses the pool for the cache leaves a record as it is
-module _ (p q : Frames) (a b : Entries) (prepared : PagedState) (form : List ℕ) (holds : HoldsRecord p prepared form) (both : HoldsBoth p a (Some prepared)) where
+module _ (p q : Frames) (a b : Entries) (prepared : PagedState) (form : List ℕ) (holds : HoldsRecord p prepared form)
+    (both : HoldsBoth p a (Some prepared)) where
   pub both_may : length form ≤ most_bytes → MayUse p a
   both_may short = record { out = both.out; room = omega (arith, both.count, holds.count, length-after_gate form, short) }
 

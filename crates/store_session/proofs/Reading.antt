@@ -6,7 +6,8 @@ use Rattle.std.proofs.lemmas.List.{append-nil, length-take}
 use Rattle.host_port.specs.Host.{Told, Disk, MayLeave, GoesOn, KeepsDisk, KeepsSaid, KeepsInput, disk_now}
 use Rattle.host_port.proofs.Course.{carry_on, at_last, told_next, course_on, kept_now, keeps_said_on, keeps_input_on}
 use Rattle.commit_journal.specs.TornWrites.{IsSettled}
-use Rattle.commit_journal.specs.Journal.{WalkState, StandsFor, StandsForNone, IsWalked, IsAtRest, IsStuck, ReadsTo, MountedFrom, IsAtMostSynced, records, record_of, header, open_gate}
+use Rattle.commit_journal.specs.Journal.{WalkState, StandsFor, StandsForNone, IsWalked, IsAtRest, IsStuck, ReadsTo, MountedFrom, IsAtMostSynced}
+use Rattle.commit_journal.specs.Journal.{records, record_of, header, open_gate}
 use Rattle.commit_journal.proofs.Torn.{left_settled}
 use Rattle.commit_journal.proofs.Ends.{records-push, length-record_of, length-header, stands}
 use Rattle.commit_journal.proofs.Mounting.{length-new_file}
@@ -51,7 +52,8 @@ is_long file none = elim (cases_lt 17 (length file)) [
 ]
 
 -- damage that the journal found is damage of the store
-pub damage_of : (fault : JournalFault) (P Q R : ℕ → Type 0) → ((at : ℕ) → P at → Q at → R at) → journal.IfDamaged fault P → journal.IfDamaged fault Q → AtDamage (fault_of fault) R
+pub damage_of : (fault : JournalFault) (P Q R : ℕ → Type 0) → ((at : ℕ) → P at → Q at → R at) → journal.IfDamaged fault P → journal.IfDamaged fault Q
+    → AtDamage (fault_of fault) R
 damage_of (journals.Damaged at) P Q R gives p q = gives at p q
 damage_of journals.DiskFault P Q R gives p q = tt
 damage_of journals.Memory P Q R gives p q = tt
@@ -64,7 +66,8 @@ damage_on (Damaged at) P Q gives p = gives at p
 damage_on Memory P Q gives p = tt
 
 -- the reading of the records stops where neither a closed gate nor a record stands
-pub stuck_is_damage : (disk : Disk) (state : State) (place at : ℕ) (made : List Event) → IsReplayed disk state place made → place < 2 ^ 40 → at ≡ place → IsStuck disk.now at → StandsForNone disk.now
+pub stuck_is_damage : (disk : Disk) (state : State) (place at : ℕ) (made : List Event) → IsReplayed disk state place made → place < 2 ^ 40
+    → at ≡ place → IsStuck disk.now at → StandsForNone disk.now
     → IsDamaged disk.now at × StandsForNoEvents disk.now
 stuck_is_damage disk state place at made replayed low at_is stuck none =
     let nothing : StandsForNoEvents disk.now = none_stands disk.now none in (
@@ -97,8 +100,10 @@ long_with_record file forms bytes place reads = omega (
 )
 
 -- the bytes of a record are no event that can be made there
-module _ (disk : Disk) (state : State) (place next at : ℕ) (bytes : List ℕ) (made : List Event) (replayed : IsReplayed disk state place made) (low : place < 2 ^ 40) (at_is : at ≡ place) (next_is : next ≡ place + 5 + length bytes)
-    (none : (event : Event) → IsTrue (playable state event) → bytes ≡ event_encoding event → ⊥) (reads : ReadsTo disk.now (map event_encoding made ++ bytes ∷ []) next) where
+module _ (disk : Disk) (state : State) (place next at : ℕ) (bytes : List ℕ) (made : List Event) (replayed : IsReplayed disk state place made)
+    (low : place < 2 ^ 40) (at_is : at ≡ place) (next_is : next ≡ place + 5 + length bytes)
+    (none : (event : Event) → IsTrue (playable state event) → bytes ≡ event_encoding event → ⊥)
+    (reads : ReadsTo disk.now (map event_encoding made ++ bytes ∷ []) next) where
   no_such : (event : Event) → IsTrue (playable (played play empty made) event) → bytes ≡ event_encoding event → ⊥
   no_such = subst (λ (s : State). (event : Event) → IsTrue (playable s event) → bytes ≡ event_encoding event → ⊥) replayed.state_is none
 
@@ -116,8 +121,10 @@ module _ (disk : Disk) (state : State) (place next at : ℕ) (bytes : List ℕ) 
         low = subst (λ (n : ℕ). n < 2 ^ 40) (sym at_is) low;
         stuck = inr (record {
           bytes = bytes;
-          reads = subst (λ (n : ℕ). ReadsTo disk.now (map event_encoding made ++ bytes ∷ []) n) (next_is ∙ ap (λ (n : ℕ). n + 5 + length bytes) (sym at_is)) reads;
-          no_event = λ events could is. none_has made events bytes [] replayed.playable no_such could (is ∙ sym (append-nil (map event_encoding made ++ bytes ∷ [])));
+          reads = subst (λ (n : ℕ). ReadsTo disk.now (map event_encoding made ++ bytes ∷ []) n)
+              (next_is ∙ ap (λ (n : ℕ). n + 5 + length bytes) (sym at_is)) reads;
+          no_event = λ events could is.
+              none_has made events bytes [] replayed.playable no_such could (is ∙ sym (append-nil (map event_encoding made ++ bytes ∷ [])));
         });
       });
     },
@@ -138,7 +145,8 @@ pub spells : (s : State) (bytes : List ℕ) (next : State) → Played s bytes ne
 spells s bytes next event = (event.0, playable_is_event s event.0 event.1, event.2)
 
 -- bytes that are read are those of one event
-pub read_again : (bytes : List ℕ) (found : Event) → whole_of event_at bytes ≡ Ok found → (event : Event) → IsEvent event → bytes ≡ event_encoding event → found ≡ event
+pub read_again : (bytes : List ℕ) (found : Event) → whole_of event_at bytes ≡ Ok found → (event : Event) → IsEvent event
+    → bytes ≡ event_encoding event → found ≡ event
 read_again bytes found is event formed spelt =
     let read : whole_of event_at bytes ≡ Ok event = ap (λ (b : List ℕ). whole_of event_at b) spelt ∙ whole_again event_codes event formed in
     cc
@@ -150,9 +158,11 @@ spelt_is_read bytes fault spells is =
     cc
 
 -- the journal's end goes on with the record
-pub end_on : (state next_state : State) (place next : ℕ) (bytes : List ℕ) → state.end ≡ place → next ≡ place + 5 + length bytes → Played state bytes next_state → next_state.end ≡ next
+pub end_on : (state next_state : State) (place next : ℕ) (bytes : List ℕ) → state.end ≡ place → next ≡ place + 5 + length bytes
+    → Played state bytes next_state → next_state.end ≡ next
 end_on state next_state place next bytes at next_is event =
-    ap (λ (s : State). s.end) event.3 ∙ play_end state event.0 ∙ (let e : state.end + 5 + length (event_encoding event.0) ≡ next = omega (arith, at, ap length event.2, next_is) in e)
+    ap (λ (s : State). s.end) event.3 ∙ play_end state event.0
+    ∙ (let e : state.end + 5 + length (event_encoding event.0) ≡ next = omega (arith, at, ap length event.2, next_is) in e)
 
 module _ (a b : Told) (old new : OpeningState) (bytes : List ℕ) (event : Played old.state bytes new.state)
     (walked : IsTrue a.tells → (forms : List (List ℕ)) → IsWalked (disk_now a) forms old.next → IsWalked (disk_now b) (forms ++ bytes ∷ []) new.next) where
@@ -163,7 +173,9 @@ module _ (a b : Told) (old new : OpeningState) (bytes : List ℕ) (event : Playe
     spelt = event.2;
     state_is = event.3;
     replayed = λ told made had. record {
-      walked = subst (λ (l : List (List ℕ)). IsWalked (disk_now b) l new.next) (ap (λ (l : List ℕ). map event_encoding made ++ l ∷ []) event.2 ∙ sym (map-more made event.0)) (walked told (map event_encoding made) had.walked);
+      walked = subst (λ (l : List (List ℕ)). IsWalked (disk_now b) l new.next)
+          (ap (λ (l : List ℕ). map event_encoding made ++ l ∷ []) event.2 ∙ sym (map-more made event.0))
+          (walked told (map event_encoding made) had.walked);
       playable = playable-more empty made event.0 had.playable (subst (λ (s : State). IsTrue (playable s event.0)) had.state_is event.1);
       state_is = event.3 ∙ ap (λ (s : State). play s event.0) had.state_is ∙ sym (played-append play empty made (event.0 ∷ []));
     };
@@ -203,7 +215,8 @@ module _ (entry a b : Told) (since : IsOpenedSince entry a) (before : GoesOn ent
 
 module _ (entry now : Told) (since : IsOpenedSince entry now) (told : IsTrue entry.tells) where
   -- what is damaged now was damaged at the entry
-  pub damage_since : (at : ℕ) → IsDamaged (disk_now now).now at × StandsForNoEvents (disk_now now).now → IsDamaged (disk_now entry).now at × StandsForNoEvents (disk_now entry).now
+  pub damage_since : (at : ℕ) → IsDamaged (disk_now now).now at × StandsForNoEvents (disk_now now).now
+      → IsDamaged (disk_now entry).now at × StandsForNoEvents (disk_now entry).now
   damage_since at damage = elim (since.file told) [
     | inl same ↦ (subst (λ (l : List ℕ). IsDamaged l at) same.1 damage.0, subst StandsForNoEvents same.1 damage.1)
     | inr fresh ↦ absurd (omega (arith, is_long (disk_now now).now damage.1, ap length fresh.1, length-new_file))
@@ -212,7 +225,8 @@ module _ (entry now : Told) (since : IsOpenedSince entry now) (told : IsTrue ent
   -- and what the store stands for now it stood for at the entry
   pub stood_since : (state : State) (made : List Event) → IsStoreOf (disk_now now) state made → StandsForEvents (disk_now entry).now made
   stood_since state made holds = record {
-    forms = from_mounted (disk_now entry).now (disk_now now).now (map event_encoding made) (since.file told) (stands (disk_now now).now (map event_encoding made) state.end holds.rests.journal.ends);
+    forms = from_mounted (disk_now entry).now (disk_now now).now (map event_encoding made) (since.file told)
+        (stands (disk_now now).now (map event_encoding made) state.end holds.rests.journal.ends);
     playable = holds.rests.playable;
   }
 
@@ -225,7 +239,8 @@ pub record Mounts (entry now : Told) (opening : OpeningState) : Type 0 where
   pub replayed : IsTrue entry.tells → (made : List Event) × IsReplayed (disk_now now) opening.state opening.next made
   pub since : IsOpenedSince entry now
 
-module _ (entry a b : Told) (opening : OpeningState) (mounts : Mounts entry a opening) (course : GoesOn a b) (disk : KeepsDisk a b) (said : KeepsSaid a b) (input : KeepsInput a b) where
+module _ (entry a b : Told) (opening : OpeningState) (mounts : Mounts entry a opening) (course : GoesOn a b) (disk : KeepsDisk a b)
+    (said : KeepsSaid a b) (input : KeepsInput a b) where
   pub mounts_since : IsOpenedSince entry b
   mounts_since = since_on entry a b mounts.since mounts.course course disk
 
@@ -250,7 +265,8 @@ module _ (entry a b : Told) (opening : OpeningState) (mounts : Mounts entry a op
   }
 
   -- the closed gate is found
-  pub mounted : (state : State) → (IsTrue a.tells → (made : List Event) → IsReplayed (disk_now a) opening.state opening.next made → IsStoreOf (disk_now b) state made)
+  pub mounted : (state : State)
+      → (IsTrue a.tells → (made : List Event) → IsReplayed (disk_now a) opening.state opening.next made → IsStoreOf (disk_now b) state made)
       → IsTrue entry.tells → (made : List Event) × IsStoreOf (disk_now b) state made × StandsForEvents (disk_now entry).now made
   mounted state store told =
       let had = mounts.replayed told in

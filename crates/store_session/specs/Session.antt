@@ -58,7 +58,8 @@ pub record IsReadyIn (pool : Frames) (form : List ℕ) (ready : Option PagedStat
 -- the record that is ready is that of an event that can be made, and fits; none is ready where there is no event
 abbrev pub IsRecordOf : Frames → State → Option Event → Option PagedState → Type 0
 IsRecordOf pool state None ready = ready ≡ None
-IsRecordOf pool state (Some event) ready = IsReadyIn pool (event_encoding event) ready × IsTrue (playable state event) × RecordFits state.end (length (event_encoding event))
+IsRecordOf pool state (Some event) ready =
+    IsReadyIn pool (event_encoding event) ready × IsTrue (playable state event) × RecordFits state.end (length (event_encoding event))
 
 -- how many frames the record takes that is ready
 abbrev pub frames_held : Option PagedState → ℕ

@@ -65,11 +65,13 @@ kind_of_some false s u v k h = cc
 
 joined_kind : (s t u : Step) → joined s t ≡ Some u → own_kind u ≡ own_kind s
 joined_kind (Put e f old mid) (Put e' f' mid' new) u h = kind_of_some (text_eq e e' && nat_eq f f') (Put e f old mid) u (Put e f old new) refl h
-joined_kind (RerankRow a f b old mid) (RerankRow a' f' b' mid' new) u h = kind_of_some (text_eq a a' && (nat_eq f f' && text_eq b b')) (RerankRow a f b old mid) u (RerankRow a f b old new) refl h
+joined_kind (RerankRow a f b old mid) (RerankRow a' f' b' mid' new) u h =
+    kind_of_some (text_eq a a' && (nat_eq f f' && text_eq b b')) (RerankRow a f b old mid) u (RerankRow a f b old new) refl h
 joined_kind (RerankPlace e old mid) (RerankPlace e' mid' new) u h = kind_of_some (text_eq e e') (RerankPlace e old mid) u (RerankPlace e old new) refl h
 joined_kind s t u h = cc
 
-one_own : (kind : OpKind) (s : Step) (o : Option Step) (c : Operation) → kind ≡ own_kind s → ((u : Step) → o ≡ Some u → own_kind u ≡ own_kind s) → option_map (λ u. Simple kind (u ∷ [])) o ≡ Some c → Own c
+one_own : (kind : OpKind) (s : Step) (o : Option Step) (c : Operation) → kind ≡ own_kind s → ((u : Step) → o ≡ Some u → own_kind u ≡ own_kind s)
+    → option_map (λ u. Simple kind (u ∷ [])) o ≡ Some c → Own c
 one_own kind s None c k same h = cc
 one_own kind s (Some u) c k same h = subst Own (some_same (Simple kind (u ∷ [])) c h) (k ∙ sym (same u refl))
 

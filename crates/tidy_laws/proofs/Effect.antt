@@ -41,7 +41,8 @@ one_step : (meta : Meta) (m n : State) (s : Step) → fold meta m (s ∷ []) ≡
 one_step meta m n s h = let p = fold_first meta m n s [] h in (p.0, some_same (apply meta m s) n p.1)
 
 -- both are simple, of one step each
-join_leads : (meta : Meta) (a b c : Operation) (m n k : State) → takes_back b a ≡ false → joined_op a b ≡ Some c → Leads meta m (a ∷ []) n → Leads meta n (b ∷ []) k → Leads meta m (c ∷ []) k
+join_leads : (meta : Meta) (a b c : Operation) (m n k : State) → takes_back b a ≡ false → joined_op a b ≡ Some c → Leads meta m (a ∷ []) n
+    → Leads meta n (b ∷ []) k → Leads meta m (c ∷ []) k
 join_leads meta (Simple kind (s ∷ [])) (Simple other (t ∷ [])) c m n k apart is first second =
     let x = one_step meta m n s first in
     let y = one_step meta n k t second in
@@ -57,7 +58,8 @@ join_leads meta (Simple kind (s ∷ s' ∷ ss)) b c m n k apart is first second 
 join_leads meta (Composite name ss) b c m n k apart is first second = cc
 
 -- what a rule leaves does what both did
-pub met_leads : (meta : Meta) → Sound meta → (a b : Operation) (left : List Operation) (m n k : State) → Good meta m → met a b ≡ Some left → Leads meta m (a ∷ []) n → Leads meta n (b ∷ []) k → Leads meta m left k
+pub met_leads : (meta : Meta) → Sound meta → (a b : Operation) (left : List Operation) (m n k : State) → Good meta m → met a b ≡ Some left
+    → Leads meta m (a ∷ []) n → Leads meta n (b ∷ []) k → Leads meta m left k
 met_leads meta sound a b left m n k good is first second =
     elim (takes_back b a) as (λ t. takes_back b a ≡ t → cond t (Some []) (option_map (λ c. c ∷ []) (joined_op a b)) ≡ Some left → Leads meta m left k) [
       | true ↦ λ back g.

@@ -92,7 +92,8 @@ settled_fewer meta p q (more {q = mid} r rest) = let first = shorter meta p mid 
 
 settled_same : (meta : Meta) (p q : List Operation) → Settles meta p q → length q ≡ length p → q ≡ p
 settled_same meta p q (done none) same = refl
-settled_same meta p q (more {q = mid} r rest) same = let first = shorter meta p mid r in let later = settled_fewer meta mid q rest in absurd (omega (arith, first, later, same))
+settled_same meta p q (more {q = mid} r rest) same = let first = shorter meta p mid r in let later = settled_fewer meta mid q rest
+    in absurd (omega (arith, first, later, same))
 
 -- a package of operations of one step each is tidy where tidying takes none away
 pub tidy_length : (meta : Meta) (p : List Operation) → list_all is_single p ≡ true → length (tidy meta p) ≡ length p → tidy meta p ≡ p

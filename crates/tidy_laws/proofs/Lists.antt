@@ -26,7 +26,8 @@ singles_steps (s ∷ ss) = ap (λ l. s ∷ l) (singles_steps ss)
 -- the steps stay as they are
 pub split_steps : (p : List Operation) → steps_all (split p) ≡ steps_all p
 split_steps [] = refl
-split_steps (Simple kind steps ∷ os) = steps_append (singles steps) (split os) ∙ ap (λ l. l ++ steps_all (split os)) (singles_steps steps) ∙ ap (λ l. steps ++ l) (split_steps os)
+split_steps (Simple kind steps ∷ os) =
+    steps_append (singles steps) (split os) ∙ ap (λ l. l ++ steps_all (split os)) (singles_steps steps) ∙ ap (λ l. steps ++ l) (split_steps os)
 split_steps (Composite name steps ∷ os) = ap (λ l. steps ++ l) (split_steps os)
 
 -- ---- operations of one step

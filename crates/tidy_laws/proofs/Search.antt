@@ -15,7 +15,8 @@ pub some_same : {A : Type 0} (x y : A) → Some x ≡ Some y → x ≡ y
 some_same x y h = cc
 
 -- ---- no rule, by recursion on the operations before, nearest first
-unmet_at : (meta : Meta) (b : Operation) (near : List Operation) (a : Operation) (far : List Operation) → Unmet meta b (near ++ (a ∷ far)) → Free meta b near → met a b ≡ None
+unmet_at : (meta : Meta) (b : Operation) (near : List Operation) (a : Operation) (far : List Operation) → Unmet meta b (near ++ (a ∷ far))
+    → Free meta b near → met a b ≡ None
 unmet_at meta b [] a far h free = h.0
 unmet_at meta b (x ∷ near) a far h free = unmet_at meta b near a far (h.1 free.0) free.1
 
@@ -68,26 +69,39 @@ pub into_some : (meta : Meta) (b : Operation) (before after : List Operation) �
 into_some meta b [] after h = cc
 into_some meta b (a ∷ before) after h =
     elim (met a b) as (λ o. met a b ≡ o → met_or o (interferes meta b a) a before (into meta b before) ≡ Some after → Found meta b (a ∷ before) after) [
-      | Some left ↦ λ is g. record { near = []; a = a; far = before; left = left; at = refl; free = tt; none = tt; rule = is; gives = sym (some_same (left ++ before) after g) }
-      | None ↦ λ is. elim (interferes meta b a) as (λ t. interferes meta b a ≡ t → met_or None t a before (into meta b before) ≡ Some after → Found meta b (a ∷ before) after) [
-        | true ↦ λ _ g. cc
-        | false ↦ λ out. elim (into meta b before) as (λ o. into meta b before ≡ o → option_map (λ l. a ∷ l) o ≡ Some after → Found meta b (a ∷ before) after) [
-          | None ↦ λ _ g. cc
-          | Some l ↦ λ on g.
-              let f = into_some meta b before l on in
-              record {
-                near = a ∷ f.near;
-                a = f.a;
-                far = f.far;
-                left = f.left;
-                at = ap (λ l. a ∷ l) f.at;
-                free = (out, f.free);
-                none = (is, f.none);
-                rule = f.rule;
-                gives = sym (some_same (a ∷ l) after g) ∙ ap (λ l. a ∷ l) f.gives;
-              }
-        ] refl
-      ] refl
+      | Some left ↦ λ is g. record {
+        near = [];
+        a = a;
+        far = before;
+        left = left;
+        at = refl;
+        free = tt;
+        none = tt;
+        rule = is;
+        gives =
+            sym (some_same (left ++ before) after g);
+      }
+      | None ↦ λ is. elim (interferes meta b a) as (λ t. interferes meta b a ≡ t → met_or None t a before (into meta b before) ≡ Some after
+          → Found meta b (a ∷ before) after) [
+            | true ↦ λ _ g. cc
+            | false ↦ λ out. elim (into meta b before) as (λ o. into meta b before ≡ o → option_map (λ l. a ∷ l) o ≡ Some after
+                → Found meta b (a ∷ before) after) [
+                  | None ↦ λ _ g. cc
+                  | Some l ↦ λ on g.
+                      let f = into_some meta b before l on in
+                      record {
+                        near = a ∷ f.near;
+                        a = f.a;
+                        far = f.far;
+                        left = f.left;
+                        at = ap (λ l. a ∷ l) f.at;
+                        free = (out, f.free);
+                        none = (is, f.none);
+                        rule = f.rule;
+                        gives = sym (some_same (a ∷ l) after g) ∙ ap (λ l. a ∷ l) f.gives;
+                      }
+                ] refl
+          ] refl
     ] refl h
 
 pub into_none : (meta : Meta) (b : Operation) (before : List Operation) → into meta b before ≡ None → Unmet meta b before
@@ -95,13 +109,14 @@ into_none meta b [] h = tt
 into_none meta b (a ∷ before) h =
     elim (met a b) as (λ o. met a b ≡ o → met_or o (interferes meta b a) a before (into meta b before) ≡ None → Unmet meta b (a ∷ before)) [
       | Some left ↦ λ is g. cc
-      | None ↦ λ is. elim (interferes meta b a) as (λ t. interferes meta b a ≡ t → met_or None t a before (into meta b before) ≡ None → Unmet meta b (a ∷ before)) [
-        | true ↦ λ stop g. (is, λ out. absurd (true_false _ stop out))
-        | false ↦ λ out. elim (into meta b before) as (λ o. into meta b before ≡ o → option_map (λ l. a ∷ l) o ≡ None → Unmet meta b (a ∷ before)) [
-          | None ↦ λ on g. (is, λ _. into_none meta b before on)
-          | Some l ↦ λ _ g. cc
-        ] refl
-      ] refl
+      | None ↦ λ is. elim (interferes meta b a) as (λ t. interferes meta b a ≡ t → met_or None t a before (into meta b before) ≡ None
+          → Unmet meta b (a ∷ before)) [
+            | true ↦ λ stop g. (is, λ out. absurd (true_false _ stop out))
+            | false ↦ λ out. elim (into meta b before) as (λ o. into meta b before ≡ o → option_map (λ l. a ∷ l) o ≡ None → Unmet meta b (a ∷ before)) [
+              | None ↦ λ on g. (is, λ _. into_none meta b before on)
+              | Some l ↦ λ _ g. cc
+            ] refl
+          ] refl
     ] refl h
 
 -- a rule leaves at most one operation
@@ -120,12 +135,14 @@ settled_first meta [] ys h = h
 settled_first meta (x ∷ xs) ys h = settled_first meta xs ys h.1
 
 -- ---- the whole list
-pub found_rule : (meta : Meta) (b : Operation) (before after rest : List Operation) → Settled meta before → Found meta b before after → OneRule meta (onto before (b ∷ rest)) (onto after rest)
+pub found_rule : (meta : Meta) (b : Operation) (before after rest : List Operation) → Settled meta before → Found meta b before after
+    → OneRule meta (onto before (b ∷ rest)) (onto after rest)
 found_rule meta b before after rest settled f =
     let front = onto f.far [] in
     let mid = onto f.near [] in
     let turned : (tail : List Operation) → onto before tail ≡ front ++ (f.a ∷ (mid ++ tail)) =
-    λ tail. ap (λ l. onto l tail) f.at ∙ onto_append f.near (f.a ∷ f.far) tail ∙ onto_front f.far (f.a ∷ onto f.near tail) ∙ ap (λ l. front ++ (f.a ∷ l)) (onto_front f.near tail) in
+    λ tail. ap (λ l. onto l tail) f.at ∙ onto_append f.near (f.a ∷ f.far) tail ∙ onto_front f.far (f.a ∷ onto f.near tail)
+    ∙ ap (λ l. front ++ (f.a ∷ l)) (onto_front f.near tail) in
     record {
       front = front;
       a = f.a;
@@ -143,14 +160,19 @@ found_rule meta b before after rest settled f =
           ∙ onto_append f.near (f.left ++ f.far) rest
           ∙ onto_append f.left f.far (onto f.near rest)
           ∙ onto_front f.far (onto f.left (onto f.near rest))
-          ∙ ap (λ l. front ++ l) (onto_front f.left (onto f.near rest) ∙ ap (λ l. l ++ onto f.near rest) (one_left f.a b f.left f.rule).0 ∙ ap (λ l. f.left ++ l) (onto_front f.near rest));
+          ∙ ap (λ l. front ++ l)
+          (onto_front f.left (onto f.near rest) ∙ ap (λ l. l ++ onto f.near rest) (one_left f.a b f.left f.rule).0
+          ∙ ap (λ l. f.left ++ l) (onto_front f.near rest));
     }
 
 pub once_some : (meta : Meta) (before rest q : List Operation) → Settled meta before → once meta before rest ≡ Some q → OneRule meta (onto before rest) q
 once_some meta before [] q settled h = cc
 once_some meta before (b ∷ rest) q settled h =
-    elim (into meta b before) as (λ o. into meta b before ≡ o → put_back o rest (once meta (b ∷ before) rest) ≡ Some q → OneRule meta (onto before (b ∷ rest)) q) [
-      | Some after ↦ λ is g. subst (OneRule meta (onto before (b ∷ rest))) (some_same (onto after rest) q g) (found_rule meta b before after rest settled (into_some meta b before after is))
+    elim (into meta b before) as (λ o. into meta b before ≡ o → put_back o rest (once meta (b ∷ before) rest) ≡ Some q
+    → OneRule meta (onto before (b ∷ rest)) q) [
+      | Some after ↦ λ is g.
+          subst (OneRule meta (onto before (b ∷ rest))) (some_same (onto after rest) q g)
+          (found_rule meta b before after rest settled (into_some meta b before after is))
       | None ↦ λ is g. once_some meta (b ∷ before) rest q (into_none meta b before is, settled) g
     ] refl h
 

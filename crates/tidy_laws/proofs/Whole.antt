@@ -21,8 +21,12 @@ use Rattle.tidy_laws.proofs.Search.{one_left, once_some, once_none}
 pub shorter : (meta : Meta) (p q : List Operation) → OneRule meta p q → length q < length p
 shorter meta p q r =
     let few = (one_left r.a r.b r.left r.rule).1 in
-    let was : length p ≡ length r.front + suc (length r.mid + suc (length r.back)) = ap length r.at ∙ length-append r.front (r.a ∷ (r.mid ++ (r.b ∷ r.back))) ∙ ap (λ n. length r.front + suc n) (length-append r.mid (r.b ∷ r.back)) in
-    let now : length q ≡ length r.front + (length r.left + (length r.mid + length r.back)) = ap length r.gives ∙ length-append r.front (r.left ++ (r.mid ++ r.back)) ∙ ap (λ n. length r.front + n) (length-append r.left (r.mid ++ r.back) ∙ ap (λ n. length r.left + n) (length-append r.mid r.back)) in
+    let was : length p ≡ length r.front + suc (length r.mid + suc (length r.back)) =
+    ap length r.at ∙ length-append r.front (r.a ∷ (r.mid ++ (r.b ∷ r.back)))
+    ∙ ap (λ n. length r.front + suc n) (length-append r.mid (r.b ∷ r.back)) in
+    let now : length q ≡ length r.front + (length r.left + (length r.mid + length r.back)) =
+    ap length r.gives ∙ length-append r.front (r.left ++ (r.mid ++ r.back))
+    ∙ ap (λ n. length r.front + n) (length-append r.left (r.mid ++ r.back) ∙ ap (λ n. length r.left + n) (length-append r.mid r.back)) in
     omega (arith, few, was, now)
 
 settle_settles : (meta : Meta) (n : ℕ) (p : List Operation) → length p ≤ n → Settles meta p (settle meta n p)
@@ -90,4 +94,5 @@ tidy_is_normal meta p = record {
 
 -- ---- and does the same
 pub tidy_keeps_effect : TidyKeepsEffect
-tidy_keeps_effect meta sound m n good p h = settling_keeps meta sound m n good (split p) (tidy meta p) (tidy_follows_rules meta p) (ap (fold meta m) (split_steps p) ∙ h)
+tidy_keeps_effect meta sound m n good p h =
+    settling_keeps meta sound m n good (split p) (tidy meta p) (tidy_follows_rules meta p) (ap (fold meta m) (split_steps p) ∙ h)

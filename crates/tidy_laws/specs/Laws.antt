@@ -27,8 +27,10 @@ TidyTestIsExact = (meta : Meta) (p : List Operation) → (is_tidy meta p ≡ tru
 
 -- where the package can be applied, so can the tidied one, with the same result
 abbrev pub TidyKeepsEffect : Type 0
-TidyKeepsEffect = (meta : Meta) → Sound meta → (m n : State) → Good meta m → (p : List Operation) → fold_package meta m p ≡ Some n → fold_package meta m (tidy meta p) ≡ Some n
+TidyKeepsEffect = (meta : Meta) → Sound meta → (m n : State) → Good meta m → (p : List Operation) → fold_package meta m p ≡ Some n
+    → fold_package meta m (tidy meta p) ≡ Some n
 
 -- the rules leave one choice: what one rule makes of a list, and what all make of it
 abbrev pub RulesLeaveNoChoice : Type 0
-RulesLeaveNoChoice = (meta : Meta) (p q : List Operation) → (OneRule meta p q → once meta [] p ≡ Some q) × (NoRule meta p → once meta [] p ≡ None) × (Settles meta (split p) q → q ≡ tidy meta p)
+RulesLeaveNoChoice = (meta : Meta) (p q : List Operation)
+    → (OneRule meta p q → once meta [] p ≡ Some q) × (NoRule meta p → once meta [] p ≡ None) × (Settles meta (split p) q → q ≡ tidy meta p)

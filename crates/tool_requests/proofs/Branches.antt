@@ -15,5 +15,6 @@ none_is_there s orderly none (suc n) =
     ap (λ l. there (slice_get l n)) all.0
 
 -- the branch of a workspace is one of the history
-pub branch_stands : (s : State) (meta : Meta) (ws : ℕ) (w : Workspace) → IsOrderly s → s.meta ≡ Some meta → workspace_of s ws ≡ Some w → w.branch < length s.history.branches
+pub branch_stands : (s : State) (meta : Meta) (ws : ℕ) (w : Workspace) → IsOrderly s → s.meta ≡ Some meta → workspace_of s ws ≡ Some w
+    → w.branch < length s.history.branches
 branch_stands s meta ws w orderly begun found = (workspaces_stand s meta w (is_there s meta ws w orderly begun found)).branch

@@ -50,7 +50,8 @@ guard_in user text = if is_name user then option_map (λ grants. Guard (record {
 -- ---- all forms
 -- what the words ask of a store that is open: `query SPEC ID CLASS FEATURE`, `blame SPEC ID` or `guard USER POLICY`
 abbrev pub tool_in : List (List ℕ) → Option Tool
-tool_in (name ∷ spec ∷ element ∷ class ∷ feature ∷ []) = if is_word name (codes "query") then option_map (λ s. Query s element class feature) (spec_in spec) else None
+tool_in (name ∷ spec ∷ element ∷ class ∷ feature ∷ []) =
+    if is_word name (codes "query") then option_map (λ s. Query s element class feature) (spec_in spec) else None
 tool_in (name ∷ first ∷ second ∷ []) =
     if is_word name (codes "blame") then option_map (λ s. Blame s second) (spec_in first)
     else if is_word name (codes "guard") then guard_in first second

@@ -41,7 +41,8 @@ module _ (entry : Told) (first : List Event) (stood : StandsForEvents (disk_now 
   pub starved_part : Throughout entry entry (λ disk said. AddsPart (said_now entry) (replies task.answers) said)
   starved_part = opening_part entry entry (course_still entry) (still_said entry) mounting first stood task
 
-  pub starved_moments : Throughout entry entry (IsOpenedRunning (disk_now entry) StandsForEvents first (events task.answers) (events_due task.answers) (said_now entry))
+  pub starved_moments : Throughout entry entry
+      (IsOpenedRunning (disk_now entry) StandsForEvents first (events task.answers) (events_due task.answers) (said_now entry))
   starved_moments = opening_moments entry entry (course_still entry) (still_said entry) mounting first stood task
 
   pub starved_kept : MayLeave (disk_now entry) (disk_now entry).now → IsTrue entry.tells → IsKept task first entry entry

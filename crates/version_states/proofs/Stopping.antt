@@ -20,11 +20,13 @@ further_sum a b (Some x) = ap (λ k. Some (record { at = k; fault = x.fault })) 
     sums a b k = omega arith
 
 -- after steps that can be taken a stop is as many places further on
-pub first_append : (meta : Meta) (m n : State) (ss ts : List Step) → fold meta m ss ≡ Some n → first_stop meta m (ss ++ ts) ≡ further_on (length ss) (first_stop meta n ts)
+pub first_append : (meta : Meta) (m n : State) (ss ts : List Step) → fold meta m ss ≡ Some n
+    → first_stop meta m (ss ++ ts) ≡ further_on (length ss) (first_stop meta n ts)
 first_append meta m n [] ts run = ap (λ (x : State). first_stop meta x ts) (same_Some m n run) ∙ sym (further_none (first_stop meta n ts))
 first_append meta m n (s ∷ ss) ts run =
     let first = fold_first meta m n s ss run in
-    stop_more meta m s (ss ++ ts) first.0 ∙ ap (further_on 1) (first_append meta (apply meta m s) n ss ts first.1) ∙ further_sum 1 (length ss) (first_stop meta n ts) ∙ ap (λ (k : ℕ). further_on k (first_stop meta n ts)) (one (length ss))
+    stop_more meta m s (ss ++ ts) first.0 ∙ ap (further_on 1) (first_append meta (apply meta m s) n ss ts first.1)
+    ∙ further_sum 1 (length ss) (first_stop meta n ts) ∙ ap (λ (k : ℕ). further_on k (first_stop meta n ts)) (one (length ss))
   where
     one : (k : ℕ) → 1 + k ≡ suc k
     one k = omega arith
@@ -34,5 +36,6 @@ no_stop : (o : Option ApplyFault) → None ≡ option_map (λ (x : ApplyFault). 
 no_stop None is = refl
 no_stop (Some x) is = absurd cc
 
-pub none_stops : (meta : Meta) (m : State) (os : List Operation) → None ≡ option_map (λ (x : ApplyFault). x.at) (first_stop meta m (steps_all os)) → is_some (fold_package meta m os) ≡ true
+pub none_stops : (meta : Meta) (m : State) (os : List Operation) → None ≡ option_map (λ (x : ApplyFault). x.at) (first_stop meta m (steps_all os))
+    → is_some (fold_package meta m os) ≡ true
 none_stops meta m os is = ap is_some (no_stop_leads meta m (steps_all os) (no_stop (first_stop meta m (steps_all os)) is)).1

@@ -50,7 +50,8 @@ either_false true b h = cc
 either_false false b h = (refl, h)
 
 -- so do all that are taken one by one
-pub steps_keep : (meta : Meta) (m n : State) (steps : List Step) (e : IdBytes) → list_any (deletes e) steps ≡ false → fold meta m steps ≡ Some n → is_live m e ≡ true → is_live n e ≡ true
+pub steps_keep : (meta : Meta) (m n : State) (steps : List Step) (e : IdBytes) → list_any (deletes e) steps ≡ false → fold meta m steps ≡ Some n
+    → is_live m e ≡ true → is_live n e ≡ true
 steps_keep meta m n [] e none run live = ap (λ (x : State). is_live x e) (sym (same_state m n run)) ∙ live
 steps_keep meta m n (s ∷ ss) e none run live =
     let here = either_false (deletes e s) (list_any (deletes e) ss) none in
@@ -58,7 +59,8 @@ steps_keep meta m n (s ∷ ss) e none run live =
     steps_keep meta (apply meta m s) n ss e here.1 on.1 (step_keeps meta m s e here.0 live)
 
 -- so the ids that are taken stay so, up to the least that is deleted
-pub still_taken : (meta : Meta) (m n : State) (steps : List Step) (ws next least : ℕ) → 1 ≤ least → least ≤ next → ((j : ℕ) → 1 ≤ j → j < least → list_any (deletes (numbered ws j)) steps ≡ false)
+pub still_taken : (meta : Meta) (m n : State) (steps : List Step) (ws next least : ℕ) → 1 ≤ least → least ≤ next
+    → ((j : ℕ) → 1 ≤ j → j < least → list_any (deletes (numbered ws j)) steps ≡ false)
     → fold meta m steps ≡ Some n → AreTaken m ws next → AreTaken n ws least
 still_taken meta m n steps ws next least from below kept run are = record {
   from = from;

@@ -2,4 +2,5 @@ use Rattle.model_times.proofs.Models.{one_more_good}
 use Rattle.model_times.proofs.measure_graph.Goals as goal
 
 pub loop-preserved : goal.loop-preserved
-loop-preserved c = one_more_good c.args.meta.now (λ m. m) c.loop.models c.push.new.self c.new.result c.in_ok-push.ensures.ok c.loop.invariant (c.new.ensures.good c.args.meta.now)
+loop-preserved c = one_more_good c.args.meta.now (λ m. m) c.loop.models c.push.new.self c.new.result c.in_ok-push.ensures.ok c.loop.invariant
+    (c.new.ensures.good c.args.meta.now)

@@ -31,4 +31,5 @@ returns-clause-settles c =
     let many = c.loop.invariant.many in
     let size = c.loop.invariant.size in
     let end : c.len-end.result ≡ length c.args.list.now.items = c.len-end.ensures ∙ c.args.list.now.ok.0 in
-    c.loop.invariant.leads (kept c.loop.standing.stands.items c.loop.list.items) (calm_settles c.args.meta.now c.loop.standing.stands.items c.loop.list.items c.loop.invariant.calm (omega (arith, past, many, size, end)))
+    c.loop.invariant.leads (kept c.loop.standing.stands.items c.loop.list.items)
+    (calm_settles c.args.meta.now c.loop.standing.stands.items c.loop.list.items c.loop.invariant.calm (omega (arith, past, many, size, end)))

@@ -10,10 +10,12 @@ returns-then-later-earlier c = unlike c.args.later.now c.args.earlier.now c.if-l
 
 pub returns-then-not-undoes : goal.returns-then-not-undoes
 returns-then-not-undoes c =
-    differs c.args.later.now c.args.earlier.now c.loop-i.i c.index-later-i.result c.index-earlier-earlier.result c.if-later-earlier.false c.loop-i-test.true c.index-later-i.is c.index-earlier-earlier.is
+    differs c.args.later.now c.args.earlier.now c.loop-i.i c.index-later-i.result c.index-earlier-earlier.result c.if-later-earlier.false
+    c.loop-i-test.true c.index-later-i.is c.index-earlier-earlier.is
     (steps_eq c.args.later.now (rev_all c.args.earlier.now)) c.loop-i.invariant (sym c.undoes.ensures ∙ c.if-not-undoes.true)
 
 pub loop-i-preserved : goal.loop-i-preserved
 loop-i-preserved c =
-    goes_on c.args.later.now c.args.earlier.now c.loop-i.i c.index-later-i.result c.index-earlier-earlier.result c.if-later-earlier.false c.loop-i-test.true c.index-later-i.is c.index-earlier-earlier.is
+    goes_on c.args.later.now c.args.earlier.now c.loop-i.i c.index-later-i.result c.index-earlier-earlier.result c.if-later-earlier.false
+    c.loop-i-test.true c.index-later-i.is c.index-earlier-earlier.is
     (steps_eq c.args.later.now (rev_all c.args.earlier.now)) c.loop-i.invariant (sym c.undoes.ensures ∙ c.if-not-undoes.false)

@@ -5,10 +5,15 @@ use Rattle.cell_index.proofs.Rises.{put_rising}
 use Rattle.cell_index.proofs.listing.put_place.Goals as goal
 
 pub returns-clause-wider : goal.returns-clause-wider
-returns-clause-wider c = put_wider c.args.table.now.items _ c.args.slot c.args.place c.index_mut.result.now c.push.new.self c.requires c.index_mut.ensures.value c.in_ok-push.ensures.items refl
+returns-clause-wider c =
+    put_wider c.args.table.now.items _ c.args.slot c.args.place c.index_mut.result.now c.push.new.self c.requires c.index_mut.ensures.value
+    c.in_ok-push.ensures.items refl
 
 pub returns-clause-listed : goal.returns-clause-listed
-returns-clause-listed c = put_listed c.args.table.now.items _ c.args.slot c.args.place c.index_mut.result.now c.push.new.self c.requires c.in_ok-push.ensures.items refl
+returns-clause-listed c =
+    put_listed c.args.table.now.items _ c.args.slot c.args.place c.index_mut.result.now c.push.new.self c.requires c.in_ok-push.ensures.items refl
 
 pub returns-clause-rising : goal.returns-clause-rising
-returns-clause-rising c = put_rising c.args.table.now.items _ c.args.slot c.args.place c.index_mut.result.now c.push.new.self c.requires c.index_mut.ensures.value c.in_ok-push.ensures.items refl
+returns-clause-rising c =
+    put_rising c.args.table.now.items _ c.args.slot c.args.place c.index_mut.result.now c.push.new.self c.requires c.index_mut.ensures.value
+    c.in_ok-push.ensures.items refl

@@ -37,7 +37,8 @@ loop-place-preserved c =
             met = λ all. subst (AllMet prints p) (sym e) (so_far.met all);
             found = λ j more off met. subst (λ l. Contains l j) (sym e) (elim (taken_number places i j c.loop-place-test.true more) [
               | inl before ↦ so_far.found j before off met
-              | inr same ↦ absurd (c.is_new.ensures.none w.if-is_new.false (ap (λ n. get_or c.args.flags.now n false) same ∙ off) (subst (IsMet prints p) (sym same) met))
+              | inr same ↦ absurd (c.is_new.ensures.none w.if-is_new.false (ap (λ n. get_or c.args.flags.now n false) same ∙ off)
+                  (subst (IsMet prints p) (sym same) met))
             ]);
           }
     ]

@@ -12,7 +12,9 @@ loop-cell-preserved c = record {
     | inl before ↦ c.in_ok-put_met.ensures.kept k (c.loop-cell.invariant.found h before k in_row off met)
     | inr e ↦
         c.in_ok-put_met.ensures.found k
-        (subst (λ l. Contains l k) (row_is c.args.table.now c.cell-item.result h c.slot_of-slot.result c.index-table-slot.result c.slot_of-slot.ensures.low c.index-table-slot.is c.slot_of-slot.ensures.slot e ∙ sym c.deref.ensures.value) in_row) off met
+        (subst (λ l. Contains l k)
+        (row_is c.args.table.now c.cell-item.result h c.slot_of-slot.result c.index-table-slot.result c.slot_of-slot.ensures.low
+        c.index-table-slot.is c.slot_of-slot.ensures.slot e ∙ sym c.deref.ensures.value) in_row) off met
   ];
 }
 

@@ -9,5 +9,6 @@ abbrev pub invariant-loop-cell : goal.invariant-loop-cell
 invariant-loop-cell l = record {
   kept : (k : ℕ) → Contains l.fn.near.items k → Contains l.near.items k;
   met : AllMet l.prints l.print l.fn.near.items → AllMet l.prints l.print l.near.items;
-  found : (h : Held) → Contains (take l.cell-index l.cells) h → (k : ℕ) → Contains (row_of l.table h) k → get_or l.flags k false ≡ false → IsMet l.prints l.print k → Contains l.near.items k;
+  found : (h : Held) → Contains (take l.cell-index l.cells) h → (k : ℕ) → Contains (row_of l.table h) k → get_or l.flags k false ≡ false
+      → IsMet l.prints l.print k → Contains l.near.items k;
 }

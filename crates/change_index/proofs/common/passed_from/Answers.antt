@@ -7,5 +7,6 @@ pub returns-else-numbers-start-clause-below : goal.returns-else-numbers-start-cl
 returns-else-numbers-start-clause-below c k low =
     let us = c.args.numbers.now in
     let last = c.back.start - 1 in
-    let most : get_or us k 0 ≤ get_or us last 0 = rises_to us c.requires.rises k last 0 (omega (arith, low)) (omega (arith, low, c.back.invariant.within, c.requires.inside)) in
+    let most : get_or us k 0 ≤ get_or us last 0 =
+    rises_to us c.requires.rises k last 0 (omega (arith, low)) (omega (arith, low, c.back.invariant.within, c.requires.inside)) in
     omega (arith, most, c.if-numbers-start.false)

@@ -11,7 +11,9 @@ use Rattle.change_index.proofs.Picking.{picked_more, picked_rises, picked_those}
 use Rattle.change_index.proofs.index.features_of.Goals as goal
 
 pub loop-feature-preserved : goal.loop-feature-preserved
-loop-feature-preserved c = picked_more (λ f. list_any (is_among (row c.args.rows.now f)) c.args.path.now) c.loop-feature.yielded c.in-Some.feature c.loop-feature.features c.loop-feature.invariant false (sym c.if-is_written.false ∙ c.is_written.ensures)
+loop-feature-preserved c =
+    picked_more (λ f. list_any (is_among (row c.args.rows.now f)) c.args.path.now) c.loop-feature.yielded c.in-Some.feature c.loop-feature.features
+    c.loop-feature.invariant false (sym c.if-is_written.false ∙ c.is_written.ensures)
 
 pub returns-clause-rise : goal.returns-clause-rise
 returns-clause-rise c =

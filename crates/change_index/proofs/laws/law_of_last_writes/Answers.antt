@@ -16,7 +16,8 @@ path_low : (v n : ℕ) (us : List ℕ) → LeadsTo v us → v < n → All (λ u.
 path_low v n us leads low =
     let whole = leads.last.1 in
     subst (λ l. All (λ u. u < n) l) (sym whole)
-    (All-weaker (λ u. u < suc v) (λ u. u < n) (λ u upto. omega (arith, upto, low)) (leads.last.0 ++ v ∷ []) (upto_last leads.last.0 v (subst Rises whole leads.rises)))
+    (All-weaker (λ u. u < suc v) (λ u. u < n) (λ u upto. omega (arith, upto, low)) (leads.last.0 ++ v ∷ [])
+    (upto_last leads.last.0 v (subst Rises whole leads.rises)))
 
 pub returns-clause-added : goal.returns-clause-added
 returns-clause-added c = index_of-push

@@ -8,7 +8,8 @@ use Rattle.change_index.proofs.Tables.{did_more, did_none, did_as, has_of-none, 
 use Rattle.change_index.proofs.table.cut_cells.Goals as goal
 
 pub loop-cell-init : goal.loop-cell-init
-loop-cell-init c = did_none (below c.args.version) c.args.table.now (λ e f. has_of e f (cells (take 0 c.args.cells.now))) (λ e f. has_of-none e f c.args.cells.now)
+loop-cell-init c = did_none (below c.args.version) c.args.table.now (λ e f. has_of e f (cells (take 0 c.args.cells.now)))
+    (λ e f. has_of-none e f c.args.cells.now)
 
 pub loop-cell-preserved : goal.loop-cell-preserved
 loop-cell-preserved c =
@@ -19,5 +20,6 @@ loop-cell-preserved c =
 
 pub returns : goal.returns
 returns c =
-    did_as (below c.args.version) c.args.table.now c.loop-cell.table (λ e f. has_of e f (cells (take c.loop-cell.cell-index c.args.cells.now))) (λ e f. has_of e f (cells c.args.cells.now))
+    did_as (below c.args.version) c.args.table.now c.loop-cell.table (λ e f. has_of e f (cells (take c.loop-cell.cell-index c.args.cells.now)))
+    (λ e f. has_of e f (cells c.args.cells.now))
     (λ e f. sym (has_of-all e f c.args.cells.now c.loop-cell.cell-index c.loop-cell-test.false)) c.loop-cell.invariant

@@ -15,8 +15,11 @@ pub returns-in-Some-clause-ok : goal.returns-in-Some-clause-ok
 returns-in-Some-clause-ok c =
     let wrote = (c.get_mut.follows.holds c.put_row.new.rows).3 (subst (λ o. IsSome o) c.in-Some.ensures.value refl) in
     on_ok c.put_row.result
-    (λ put. pair_done c.args.table.now (c.get_mut.follows.lender c.put_row.new.rows) c.args.element.now c.put_row.new.rows wrote.0 (pushed c.args.version) c.args.feature
-    (λ g. put g ∙ ap (λ o. cond (nat_eq c.args.feature g) (pushed c.args.version (numbers (inner_get (λ r. tree.get nat_cmp r g) o))) (numbers (inner_get (λ r. tree.get nat_cmp r g) o))) c.in-Some.ensures.value))
+    (λ put. pair_done c.args.table.now (c.get_mut.follows.lender c.put_row.new.rows) c.args.element.now c.put_row.new.rows wrote.0
+    (pushed c.args.version) c.args.feature
+    (λ g. put g ∙ ap (λ o.
+    cond (nat_eq c.args.feature g) (pushed c.args.version (numbers (inner_get (λ r. tree.get nat_cmp r g) o)))
+    (numbers (inner_get (λ r. tree.get nat_cmp r g) o))) c.in-Some.ensures.value))
     c.put_row.ensures.ok
 
 pub returns-in-Some-clause-err : goal.returns-in-Some-clause-err
@@ -31,7 +34,10 @@ pub returns-in_ok-insert-in-None-clause-ok : goal.returns-in_ok-insert-in-None-c
 returns-in_ok-insert-in-None-clause-ok c =
     let still : c.get_mut.follows.lender-at-none ≡ c.args.table.now = c.get_mut.follows.holds-at-none in
     pair_done c.args.table.now c.insert.new.self c.args.element.now c.put_row-in-None.new.rows
-    (λ q. c.in_ok-insert-in-None.ensures.updates.0 q ∙ (λ i. cond (is_at (id_cmp (c.in_ok-copy-in-None.ensures i)) q) (Some c.put_row-in-None.new.rows) (tree.get id_cmp (still i) q)))
+    (λ q. c.in_ok-insert-in-None.ensures.updates.0 q
+    ∙ (λ i. cond (is_at (id_cmp (c.in_ok-copy-in-None.ensures i)) q) (Some c.put_row-in-None.new.rows) (tree.get id_cmp (still i) q)))
     (pushed c.args.version) c.args.feature
     (λ g. c.in_ok-put_row-in-None.ensures.ok g
-    ∙ ap (λ us. cond (nat_eq c.args.feature g) (pushed c.args.version us) us) (ap (λ es. numbers (lookup (is_at (nat_cmp g)) es)) c.new-rows.ensures.empty ∙ ap (λ o. numbers (inner_get (λ r. tree.get nat_cmp r g) o)) c.in-None.ensures.value))
+    ∙ ap (λ us. cond (nat_eq c.args.feature g) (pushed c.args.version us) us)
+    (ap (λ es. numbers (lookup (is_at (nat_cmp g)) es)) c.new-rows.ensures.empty
+    ∙ ap (λ o. numbers (inner_get (λ r. tree.get nat_cmp r g) o)) c.in-None.ensures.value))

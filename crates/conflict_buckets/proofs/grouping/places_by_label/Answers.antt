@@ -13,5 +13,6 @@ loop-place-preserved c =
     let size = c.loop-place.invariant.size in
     record {
       size = c.in_ok-put_label.ensures.size ∙ size;
-      places = λ k low. places_more k labels i (get_or labels i 0) (list_at old k) (list_at new k) c.loop-place-test.true refl (c.loop-place.invariant.places k low) (c.in_ok-put_label.ensures.lists k (subst (λ n. k < n) (sym size) low));
+      places = λ k low. places_more k labels i (get_or labels i 0) (list_at old k) (list_at new k) c.loop-place-test.true refl
+          (c.loop-place.invariant.places k low) (c.in_ok-put_label.ensures.lists k (subst (λ n. k < n) (sym size) low));
     }

@@ -10,7 +10,9 @@ loop-i-preserved c =
     let ts = c.args._theirs.now in
     let ms = c.args._mine.now in
     let low : c.loop-i.i < length ts = subst (λ n. c.loop-i.i < n) (as_many meta c.args.left.now ts c.requires.left) c.loop-i-test.true in
-    pairs_further meta ts ms c.loop-i.i c.loop-i.found c.put_pairs.new.found (pairs meta ts ms) low (λ a rest is. c.in_ok-put_pairs.ensures meta c.args.left.now ts ms a rest c.loop-i-test.true c.index-left-i.is c.requires.left c.requires.right is) c.loop-i.invariant
+    pairs_further meta ts ms c.loop-i.i c.loop-i.found c.put_pairs.new.found (pairs meta ts ms) low
+    (λ a rest is. c.in_ok-put_pairs.ensures meta c.args.left.now ts ms a rest c.loop-i-test.true c.index-left-i.is c.requires.left
+    c.requires.right is) c.loop-i.invariant
 
 pub returns : goal.returns
 returns c =

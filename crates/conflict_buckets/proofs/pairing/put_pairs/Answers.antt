@@ -24,10 +24,12 @@ loop-k-preserved c = λ meta left ts ms a rest low print_is h g is.
       | else-interferes w ↦
           ap (λ l. l ++ (pairs_with meta i a (k + 1) (drop (k + 1) ms) ++ rest)) w.found-is
           ∙ pair_turn meta left c.args.right.now ts ms h g i k c.args.print.now c.index-right-k.result before high print_is c.index-right-k.is
-          c.loop-k.found rest whole false (sym c.interferes.ensures ∙ w.if-interferes.false) a is (c.loop-k.invariant meta left ts ms a rest low print_is h g is)
+          c.loop-k.found rest whole false (sym c.interferes.ensures ∙ w.if-interferes.false) a is
+          (c.loop-k.invariant meta left ts ms a rest low print_is h g is)
     ]
 
 pub returns : goal.returns
 returns c = λ meta left ts ms a rest low print_is h g is.
     let high : length ms ≤ c.loop-k.k = subst (λ n. n ≤ c.loop-k.k) (as_many meta c.args.right.now ms g) c.loop-k-test.false in
-    with_end meta c.args.i c.loop-k.k a ms c.loop-k.found rest (c.args.found.now ++ (pairs_with meta c.args.i a 0 ms ++ rest)) high (c.loop-k.invariant meta left ts ms a rest low print_is h g is)
+    with_end meta c.args.i c.loop-k.k a ms c.loop-k.found rest (c.args.found.now ++ (pairs_with meta c.args.i a 0 ms ++ rest)) high
+    (c.loop-k.invariant meta left ts ms a rest low print_is h g is)

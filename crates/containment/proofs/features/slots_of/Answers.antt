@@ -15,7 +15,8 @@ loop-x-preserved g c =
     let i = c.loop-x.x-index in
     let x = c.x-item.result in
     let rest = slots_of meta m p (drop (i + 1) xs) in
-    let head : slots_of meta m p (drop i xs) ≡ map (λ f. (x, f)) (features_of meta p (get m.kind x)) ++ rest = ap (slots_of meta m p) (drop_more xs i x c.loop-x-test.true c.x-item.is) in
+    let head : slots_of meta m p (drop i xs) ≡ map (λ f. (x, f)) (features_of meta p (get m.kind x)) ++ rest =
+    ap (slots_of meta m p) (drop_more xs i x c.loop-x-test.true c.x-item.is) in
     ap (λ l. l ++ rest) (c.in_ok-push_slots.ensures ∙ ap (λ k. c.loop-x.slots ++ map (λ f. (x, f)) (features_of meta p k)) c.class.ensures)
     ∙ append_assoc c.loop-x.slots (map (λ f. (x, f)) (features_of meta p (get m.kind x))) rest
     ∙ ap (λ l. c.loop-x.slots ++ l) (sym head)

@@ -49,5 +49,6 @@ returns-clause-made g c =
       above_to = c.in_ok-above_to.ensures.chain;
       made =
           made ∙ (λ i. move_to_made m e (from i) to k up down)
-          ∙ sym (ap (λ b. cond b (move_within_made m e to (unwrap_or c.args.at (length (without_entry e xs)))) (move_to_made m e (place_of m e) to k up down)) same);
+          ∙ sym (ap (λ b. cond b (move_within_made m e to (unwrap_or c.args.at (length (without_entry e xs))))
+          (move_to_made m e (place_of m e) to k up down)) same);
     }) c.move_to.ensures.made

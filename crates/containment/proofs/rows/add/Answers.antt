@@ -11,4 +11,5 @@ returns c = λ ss has.
     let new = c.insert.new.self in
     let s = c.args.slot.now in
     slots_more old new ss s has
-    (subst (λ (k : AttrKey). (q : AttrKey) → contains attr_cmp new q ≡ cond (is_at (attr_cmp k) q) true (contains attr_cmp old q)) (λ i. (c.in_ok-copy.ensures i, s.1)) c.in_ok-insert.ensures.updates.0)
+    (subst (λ (k : AttrKey). (q : AttrKey) → contains attr_cmp new q ≡ cond (is_at (attr_cmp k) q) true (contains attr_cmp old q))
+    (λ i. (c.in_ok-copy.ensures i, s.1)) c.in_ok-insert.ensures.updates.0)

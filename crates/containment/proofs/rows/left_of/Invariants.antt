@@ -5,4 +5,6 @@ use Rattle.containment.specs.Reached.{is_reached}
 use Rattle.containment.proofs.rows.left_of.Given as goal
 
 abbrev pub invariant-loop-x : goal.invariant-loop-x
-invariant-loop-x l = l.left ++ filter (λ (x : Entry). not (is_reached l.meta l.before (l.slot.0, l.slot.1, x.id))) (drop l.x-index l.targets) ≡ filter (λ (x : Entry). not (is_reached l.meta l.before (l.slot.0, l.slot.1, x.id))) l.targets
+invariant-loop-x l = l.left
+    ++ filter (λ (x : Entry). not (is_reached l.meta l.before (l.slot.0, l.slot.1, x.id))) (drop l.x-index l.targets) ≡ filter
+    (λ (x : Entry). not (is_reached l.meta l.before (l.slot.0, l.slot.1, x.id))) l.targets

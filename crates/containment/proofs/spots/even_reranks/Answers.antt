@@ -12,11 +12,13 @@ use Rattle.model_state.specs.Ranks.{rank_gap}
 
 -- the steps for one entry more
 grown : (xs : List Entry) (i : ℕ) (x : Entry) → i < length xs → i ≤ length xs → take (i + 1) xs ≡ take i xs ++ x ∷ []
-    → rerank_places (take (i + 1) xs) (evened 1 (take (i + 1) xs)) ≡ rerank_places (take i xs) (evened 1 (take i xs)) ++ cond (nat_eq x.rank ((i + 1) * rank_gap)) [] (RerankPlace x.id x.rank ((i + 1) * rank_gap) ∷ [])
+    → rerank_places (take (i + 1) xs) (evened 1 (take (i + 1) xs)) ≡ rerank_places (take i xs) (evened 1 (take i xs))
+    ++ cond (nat_eq x.rank ((i + 1) * rank_gap)) [] (RerankPlace x.id x.rank ((i + 1) * rank_gap) ∷ [])
 grown xs i x lt le more =
     ap (λ ys. rerank_places ys (evened 1 ys)) more
     ∙ rerank_last 1 (take i xs) x
-    ∙ ap (λ n. rerank_places (take i xs) (evened 1 (take i xs)) ++ cond (nat_eq x.rank (n * rank_gap)) [] (RerankPlace x.id x.rank (n * rank_gap) ∷ [])) (ap (λ k. 1 + k) (take_long xs i le) ∙ turned i)
+    ∙ ap (λ n. rerank_places (take i xs) (evened 1 (take i xs))
+    ++ cond (nat_eq x.rank (n * rank_gap)) [] (RerankPlace x.id x.rank (n * rank_gap) ∷ [])) (ap (λ k. 1 + k) (take_long xs i le) ∙ turned i)
   where
     turned : (k : ℕ) → 1 + k ≡ k + 1
     turned k = omega arith

@@ -7,4 +7,5 @@ use Rattle.containment.proofs.spots.reranks.Goals as goal
 pub returns-else-opening : goal.returns-else-opening
 returns-else-opening c =
     let xs = c.args.opening.now.others in
-    c.new.ensures ∙ sym (ap (rerank_places xs) (spot_kept xs c.args.opening.now.index (not_not c.args.opening.now.reranks _ c.requires.reranks c.if-opening.false)) ∙ no_reranks xs)
+    c.new.ensures ∙ sym (ap (rerank_places xs)
+    (spot_kept xs c.args.opening.now.index (not_not c.args.opening.now.reranks _ c.requires.reranks c.if-opening.false)) ∙ no_reranks xs)

@@ -25,8 +25,10 @@ loop-preserved g c =
     let rest = c.loop.invariant in
     let x = c.in-Some.x in
     let stack = c.pop.new.self.items in
-    let next = goes_on meta m (subtree_of meta m c.args.e.now) c.loop.found stack rest.0 x (subst (λ l. IsForest meta m (reverse l) rest.0) c.in-Some.ensures.items rest.1) rest.2 in
-    let stacked : c.stack_up.new.stack.items ≡ stack ++ reverse (children_of meta m x) = c.in_ok-stack_up.ensures ∙ ap (λ l. stack ++ reverse l) c.in_ok-children_of.ensures in (
+    let next = goes_on meta m (subtree_of meta m c.args.e.now) c.loop.found stack rest.0 x
+    (subst (λ l. IsForest meta m (reverse l) rest.0) c.in-Some.ensures.items rest.1) rest.2 in
+    let stacked : c.stack_up.new.stack.items ≡ stack ++ reverse (children_of meta m x) =
+    c.in_ok-stack_up.ensures ∙ ap (λ l. stack ++ reverse l) c.in_ok-children_of.ensures in (
       next.0,
       subst (λ l. IsForest meta m (reverse l) next.0) (sym stacked) next.1,
       ap (λ l. l ++ next.0) c.in_ok-push-2.ensures.ok ∙ next.2,

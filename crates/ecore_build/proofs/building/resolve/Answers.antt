@@ -12,7 +12,14 @@ all_above-requires-clause-inside c =
 
 pub all_above-requires-clause-few : goal.all_above-requires-clause-few
 all_above-requires-clause-few c =
-    omega (arith, ap length c.as_slice.ensures.value, ap length c.in_ok-supers.ensures, length-map c.in_ok-supers.supers.items (λ ups. ups.items), supers_few c.args.classifiers.now c.args.rows.now, c.requires.numbered.classifiers)
+    omega (
+      arith,
+      ap length c.as_slice.ensures.value,
+      ap length c.in_ok-supers.ensures,
+      length-map c.in_ok-supers.supers.items (λ ups. ups.items),
+      supers_few c.args.classifiers.now c.args.rows.now,
+      c.requires.numbered.classifiers,
+    )
 
 pub listed-requires-clause-supers : goal.listed-requires-clause-supers
 listed-requires-clause-supers c =

@@ -18,11 +18,19 @@ any_cycle-requires-clause-above c =
 
 pub any_cycle-requires-clause-inside : goal.any_cycle-requires-clause-inside
 any_cycle-requires-clause-inside c =
-    supers_inside c.args.rows.now (map (λ ups. ups.items) c.as_slice-2.result.now) (ap (map (λ ups. ups.items)) c.as_slice-2.ensures.value ∙ c.requires.resolved.supers)
+    supers_inside c.args.rows.now (map (λ ups. ups.items) c.as_slice-2.result.now)
+    (ap (map (λ ups. ups.items)) c.as_slice-2.ensures.value ∙ c.requires.resolved.supers)
 
 pub any_cycle-requires-clause-few : goal.any_cycle-requires-clause-few
 any_cycle-requires-clause-few c =
-    omega (arith, ap length c.as_slice-2.ensures.value, ap length c.requires.resolved.supers, length-map c.args.resolved.now.supers.items (λ ups. ups.items), supers_few c.args.rows.now c.args.rows.now, c.requires.numbered.classifiers)
+    omega (
+      arith,
+      ap length c.as_slice-2.ensures.value,
+      ap length c.requires.resolved.supers,
+      length-map c.args.resolved.now.supers.items (λ ups. ups.items),
+      supers_few c.args.rows.now c.args.rows.now,
+      c.requires.numbered.classifiers,
+    )
 
 pub last_fault-requires : goal.last_fault-requires
 last_fault-requires c = omega (arith, ap length c.requires.resolved.drafted, drafts_few c.args.rows.now, c.requires.numbered.features)
@@ -36,7 +44,8 @@ returns c =
     (past _ _ _ _ (sym c.if-any_unsupported.false ∙ c.any_unsupported.ensures ∙ ap unsupported (c.as_slice.ensures.value ∙ c.requires.resolved.drafted))
     (past _ _ _ _
     (neither _ _ (sym c.if-any_lacks_super.false ∙ c.any_lacks_super.ensures ∙ ap (λ k. list_any (lacks_super k) rows) c.requires.same)
-    (sym c.if-any_missing.false ∙ c.any_missing.ensures ∙ ap (list_any (λ (d : Draft). is_missing d.target)) (c.as_slice-else-any_lacks_super.ensures.value ∙ c.requires.resolved.drafted)))
+    (sym c.if-any_missing.false ∙ c.any_missing.ensures
+    ∙ ap (list_any (λ (d : Draft). is_missing d.target)) (c.as_slice-else-any_lacks_super.ensures.value ∙ c.requires.resolved.drafted)))
     (past _ _ _ _
     (sym c.if-any_cycle.false ∙ c.any_cycle.ensures
     ∙ ap (λ ls. super_cycle (map (λ ups. ups.items) ls)) c.as_slice-2.ensures.value

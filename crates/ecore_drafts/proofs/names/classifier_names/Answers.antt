@@ -6,4 +6,5 @@ use Rattle.ecore_drafts.proofs.names.classifier_names.Goals as goal
 pub loop-row-preserved : goal.loop-row-preserved
 loop-row-preserved c =
     ap (map (λ n. n.now)) c.in_ok-push.ensures.items
-    ∙ named_more (λ n. n.now) classifier_name c.loop-row.names.items c.name.result c.args.rows.now c.loop-row.row-index c.row-item.result c.loop-row-test.true c.loop-row.invariant c.name.ensures c.row-item.is
+    ∙ named_more (λ n. n.now) classifier_name c.loop-row.names.items c.name.result c.args.rows.now c.loop-row.row-index c.row-item.result
+    c.loop-row-test.true c.loop-row.invariant c.name.ensures c.row-item.is

@@ -10,8 +10,10 @@ returns-then-contains_key c =
 
 pub loop-n-preserved : goal.loop-n-preserved
 loop-n-preserved c = record {
-  apart = still_apart (λ n. n.now) c.args.names.now c.loop-n.n _ c.loop-n-test.true c.loop-n.invariant.apart (c.if-contains_key.ensures ∙ ap is_some (c.loop-n.invariant.told _));
+  apart = still_apart (λ n. n.now) c.args.names.now c.loop-n.n _ c.loop-n-test.true c.loop-n.invariant.apart
+      (c.if-contains_key.ensures ∙ ap is_some (c.loop-n.invariant.told _));
   told = λ q.
       btree_map_updates_str _ c.loop-n.index c.insert.new.self _ c.in_ok-insert.ensures.updates q
-      ∙ still_told (λ n. n.now) c.args.names.now c.loop-n.n _ c.loop-n-test.true (c.if-contains_key.ensures ∙ ap is_some (c.loop-n.invariant.told _)) _ refl _ c.loop-n.invariant.told q;
+      ∙ still_told (λ n. n.now) c.args.names.now c.loop-n.n _ c.loop-n-test.true
+      (c.if-contains_key.ensures ∙ ap is_some (c.loop-n.invariant.told _)) _ refl _ c.loop-n.invariant.told q;
 }

@@ -13,7 +13,9 @@ loop-next-init c =
     let P : List ℕ → Type 0 = λ xs. Walked (map (λ ups. ups.items) c.args.supers.now) c.args.class c.insert.new.self xs 0 in
     subst P (sym (c.in_ok-push.ensures.items ∙ ap (λ xs. xs ++ c.args.class ∷ []) c.new-reached.ensures.items))
     (walk_first (map (λ ups. ups.items) c.args.supers.now) c.args.class c.insert.new.self (omega (arith, length-map c.args.supers.now (λ ups. ups.items)))
-    (reached_first c.new-seen.result c.insert.new.self c.args.class (λ q. ap (list_any (is_at (nat_cmp q))) c.new-seen.ensures.empty) c.in_ok-insert.ensures.updates.0 c.new-seen.ensures.ordered c.in_ok-insert.ensures.ordered))
+    (reached_first c.new-seen.result c.insert.new.self c.args.class
+    (λ q. ap (list_any (is_at (nat_cmp q))) c.new-seen.ensures.empty) c.in_ok-insert.ensures.updates.0 c.new-seen.ensures.ordered
+    c.in_ok-insert.ensures.ordered))
 
 pub bounds-supers-index : goal.bounds-supers-index
 bounds-supers-index c =
@@ -37,15 +39,23 @@ loop-next-preserved c =
     walk_more _ _ _ _ _ _ _ c.requires.inside c.loop-next.invariant m c.in_ok-reach_all.ensures.kept
     (subst P
     (c.as_slice-ups.ensures.value ∙ ap (λ v. v.items) c.index-supers-index.is
-    ∙ sym (supers_at (λ ups. ups.items) c.args.supers.now c.index.result.now c.index-supers-index.result (omega (arith, h, idx, length-map c.args.supers.now (λ ups. ups.items))))
+    ∙ sym (supers_at (λ ups. ups.items) c.args.supers.now c.index.result.now c.index-supers-index.result
+    (omega (arith, h, idx, length-map c.args.supers.now (λ ups. ups.items))))
     ∙ ap (supers_of (map (λ ups. ups.items) c.args.supers.now)) idx)
     c.in_ok-reach_all.ensures.grown)
 
 pub returns-clause-has : goal.returns-clause-has
-returns-clause-has c = walk_ends _ _ _ _ _ c.requires.inside (omega (arith, length-map c.args.supers.now (λ ups. ups.items))) c.loop-next.invariant (omega (arith, c.len.ensures))
+returns-clause-has c = walk_ends _ _ _ _ _ c.requires.inside (omega (arith, length-map c.args.supers.now (λ ups. ups.items))) c.loop-next.invariant
+    (omega (arith, c.len.ensures))
 
 pub returns-clause-rising : goal.returns-clause-rising
 returns-clause-rising c =
-    let has = walk_ends _ _ _ _ _ c.requires.inside (omega (arith, length-map c.args.supers.now (λ ups. ups.items))) c.loop-next.invariant (omega (arith, c.len.ensures)) in
-    keys_are c.loop-next.seen (is_above (map (λ ups. ups.items) c.args.supers.now) c.args.class) (length c.args.supers.now) c.loop-next.invariant.kept.sorted has
-    (λ d h. omega (arith, length-map c.args.supers.now (λ ups. ups.items), c.loop-next.invariant.below d (sym (c.loop-next.invariant.kept.alike d) ∙ has d ∙ h)))
+    let has = walk_ends _ _ _ _ _ c.requires.inside (omega (arith, length-map c.args.supers.now (λ ups. ups.items))) c.loop-next.invariant
+    (omega (arith, c.len.ensures)) in
+    keys_are c.loop-next.seen (is_above (map (λ ups. ups.items) c.args.supers.now) c.args.class)
+    (length c.args.supers.now) c.loop-next.invariant.kept.sorted has
+    (λ d h. omega (
+      arith,
+      length-map c.args.supers.now (λ ups. ups.items),
+      c.loop-next.invariant.below d (sym (c.loop-next.invariant.kept.alike d) ∙ has d ∙ h),
+    ))

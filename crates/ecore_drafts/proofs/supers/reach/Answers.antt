@@ -7,7 +7,8 @@ pub returns-clause-kept : goal.returns-clause-kept
 returns-clause-kept c =
     let P : List ℕ → Type 0 = λ xs. Reached c.insert.new.self xs in
     subst P (sym c.in_ok-push.ensures.items)
-    (reached_more c.args.seen.now c.insert.new.self c.args.reached.now.items c.args.up c.requires c.in_ok-insert.ensures.updates.0 c.if-contains.ensures c.in_ok-insert.ensures.ordered)
+    (reached_more c.args.seen.now c.insert.new.self c.args.reached.now.items c.args.up c.requires c.in_ok-insert.ensures.updates.0
+    c.if-contains.ensures c.in_ok-insert.ensures.ordered)
 
 pub returns-clause-grown : goal.returns-clause-grown
 returns-clause-grown c =

@@ -12,7 +12,8 @@ loop-up-preserved c =
     let P : List ℕ → Type 0 = λ us. Grown us c.args.reached.now.items c.reach.new.reached.items in
     record {
       kept = c.in_ok-reach.ensures.kept;
-      grown = subst P (sym (take_more c.args.ups.now c.loop-up.up-index 0 c.loop-up-test.true)) (grown_twice _ _ _ _ _ c.loop-up.invariant.grown c.in_ok-reach.ensures.grown);
+      grown = subst P (sym (take_more c.args.ups.now c.loop-up.up-index 0 c.loop-up-test.true))
+          (grown_twice _ _ _ _ _ c.loop-up.invariant.grown c.in_ok-reach.ensures.grown);
     }
 
 pub returns-clause-grown : goal.returns-clause-grown

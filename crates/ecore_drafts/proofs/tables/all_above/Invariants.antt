@@ -4,4 +4,6 @@ use Rattle.ecore_drafts.specs.Supers.{is_above}
 use Rattle.ecore_drafts.proofs.tables.all_above.Given as goal
 
 abbrev pub invariant-loop-class : goal.invariant-loop-class
-invariant-loop-class l = map (λ s. s.keys) l.table.items ≡ map (λ c. filter (is_above (map (λ ups. ups.items) l.supers) c) (range_with_len 0 (length l.supers))) (range_with_len 0 l.class)
+invariant-loop-class l =
+    map (λ s. s.keys) l.table.items ≡ map (λ c. filter (is_above (map (λ ups. ups.items) l.supers) c) (range_with_len 0 (length l.supers)))
+    (range_with_len 0 l.class)

@@ -14,11 +14,14 @@ use Rattle.ecore_json.proofs.read.of_package.Goals as goal
 pub returns : goal.returns
 returns c =
     let d = view c.args.root.now in
-    let none : package_fault (own_prefix d) d ≡ None = sym (c.in-None.ensures ∙ ap (λ own. object_fault own Root d) (c.as_str.ensures.value ∙ c.in_ok-own.ensures)) in
-    gives_same c.built.result _ _ c.built.ensures (ap (λ (r : MetaRows). built (fault r.classifiers) r) c.in_ok-rows-in-None.ensures ∙ sym (ap (λ o. walked o (rows_of d)) none))
+    let none : package_fault (own_prefix d) d ≡ None =
+    sym (c.in-None.ensures ∙ ap (λ own. object_fault own Root d) (c.as_str.ensures.value ∙ c.in_ok-own.ensures)) in
+    gives_same c.built.result _ _ c.built.ensures
+    (ap (λ (r : MetaRows). built (fault r.classifiers) r) c.in_ok-rows-in-None.ensures ∙ sym (ap (λ o. walked o (rows_of d)) none))
 
 pub built-requires-clause-fit : goal.built-requires-clause-fit
 built-requires-clause-fit c =
     let d = view c.args.root.now in
-    let none : package_fault (own_prefix d) d ≡ None = sym (c.in-None.ensures ∙ ap (λ own. object_fault own Root d) (c.as_str.ensures.value ∙ c.in_ok-own.ensures)) in
+    let none : package_fault (own_prefix d) d ≡ None =
+    sym (c.in-None.ensures ∙ ap (λ own. object_fault own Root d) (c.as_str.ensures.value ∙ c.in_ok-own.ensures)) in
     subst (λ (r : MetaRows). NamesFit r.classifiers) (sym c.in_ok-rows-in-None.ensures) (names_fit d none)

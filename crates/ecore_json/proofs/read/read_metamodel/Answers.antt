@@ -14,4 +14,7 @@ returns-in-None c = record { read = ap of_document c.in-Ok.ensures.ok ∙ ap of_
 
 pub returns : goal.returns
 unfolding metamodel_of
-returns c = record { read = gives_same c.of_package.result _ _ c.of_package.ensures (ap of_package c.in-Some.ensures ∙ sym (ap of_document c.in-Ok.ensures.ok)) }
+returns c = record {
+  read =
+      gives_same c.of_package.result _ _ c.of_package.ensures (ap of_package c.in-Some.ensures ∙ sym (ap of_document c.in-Ok.ensures.ok));
+}

@@ -18,7 +18,8 @@ not_both false = refl
 whole : (t : List ℕ) → position_or_len is_slash t ≡ length t → None ≡ two_names t
 whole t h =
     sym (ap (λ b. cond b (Some (before_first is_slash t, after_first is_slash t)) None)
-    (ap (λ a. is_name (before_first is_slash t) && is_name a) (past_end (position_or_len is_slash t + 1) t (omega (arith, h))) ∙ not_both (is_name (before_first is_slash t))))
+    (ap (λ a. is_name (before_first is_slash t) && is_name a) (past_end (position_or_len is_slash t + 1) t (omega (arith, h)))
+    ∙ not_both (is_name (before_first is_slash t))))
 
 pub returns-in-None : goal.returns-in-None
 returns-in-None c = whole c.args.text.now (c.in-None.ensures.byte (omega arith) (λ w o h. h))

@@ -10,4 +10,5 @@ pub loop-n-preserved : goal.loop-n-preserved
 loop-n-preserved c = λ q.
     c.in_ok-enter.ensures q
     ∙ ap (λ o. or_else o (cond (bytes_eq q c.as_str.result.now) (Some c.loop-n.n) None)) (c.loop-n.invariant q)
-    ∙ entered_more (λ x. x.name) c.args.literals.now c.loop-n.n c.index-literals-n.result c.loop-n-test.true (get_by_text c.args.index.now q) q c.as_str.result.now (c.as_str.ensures ∙ ap (λ x. x.name) c.index-literals-n.is)
+    ∙ entered_more (λ x. x.name) c.args.literals.now c.loop-n.n c.index-literals-n.result c.loop-n-test.true
+    (get_by_text c.args.index.now q) q c.as_str.result.now (c.as_str.ensures ∙ ap (λ x. x.name) c.index-literals-n.is)

@@ -9,18 +9,22 @@ unfolding ok_of
 returns-in-Ok-clause-whole c =
     ap (λ n. Some n) (read_fits c.args.text.now c.parse.result c.parse.ensures.value.0 c.in-Ok.n c.in-Ok.is)
     ∙ sym (ap ok_of c.in-Ok.is)
-    ∙ parsed c.args.text.now c.parse.result c.parse.ensures.value.0 (c.if-begins_with_plus.ensures ∙ ap (λ bs. nat_eq (slice_index bs 0) 43) c.as_bytes.ensures.value)
+    ∙ parsed c.args.text.now c.parse.result c.parse.ensures.value.0
+    (c.if-begins_with_plus.ensures ∙ ap (λ bs. nat_eq (slice_index bs 0) 43) c.as_bytes.ensures.value)
 
 pub returns-in-Err-clause-whole : goal.returns-in-Err-clause-whole
 unfolding ok_of
 returns-in-Err-clause-whole c =
     sym (ap ok_of c.in-Err.is)
-    ∙ parsed c.args.text.now c.parse.result c.parse.ensures.value.0 (c.if-begins_with_plus.ensures ∙ ap (λ bs. nat_eq (slice_index bs 0) 43) c.as_bytes.ensures.value)
+    ∙ parsed c.args.text.now c.parse.result c.parse.ensures.value.0
+    (c.if-begins_with_plus.ensures ∙ ap (λ bs. nat_eq (slice_index bs 0) 43) c.as_bytes.ensures.value)
 
 pub returns-then-begins_with_plus-clause-whole : goal.returns-then-begins_with_plus-clause-whole
-returns-then-begins_with_plus-clause-whole c = plus_none c.args.text.now (c.if-begins_with_plus.ensures ∙ ap (λ bs. nat_eq (slice_index bs 0) 43) c.as_bytes.ensures.value)
+returns-then-begins_with_plus-clause-whole c =
+    plus_none c.args.text.now (c.if-begins_with_plus.ensures ∙ ap (λ bs. nat_eq (slice_index bs 0) 43) c.as_bytes.ensures.value)
 
 pub returns-in-Ok-clause-fits : goal.returns-in-Ok-clause-fits
 returns-in-Ok-clause-fits c =
     let P : ℤ → Type 0 = λ n. FitsSigned w64 n in
-    subst P (sym (read_fits c.args.text.now c.parse.result c.parse.ensures.value.0 c.in-Ok.n c.in-Ok.is)) (fits_64 c.args.text.now c.parse.result c.parse.ensures.value.0 c.in-Ok.n c.in-Ok.is)
+    subst P (sym (read_fits c.args.text.now c.parse.result c.parse.ensures.value.0 c.in-Ok.n c.in-Ok.is))
+    (fits_64 c.args.text.now c.parse.result c.parse.ensures.value.0 c.in-Ok.n c.in-Ok.is)

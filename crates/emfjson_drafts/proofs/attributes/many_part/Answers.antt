@@ -18,7 +18,8 @@ returns-then-is_null c = (
 pub returns-then-len-eq0 : goal.returns-then-len-eq0
 returns-then-len-eq0 c = (
   no_part,
-  many_read c.args.meta.now c.args.feature c.args.scalar.now c.args.unique (view c.args.json.now) c.in_ok-values.values true (map view c.elements.result.now) (sym c.is_null.ensures ∙ c.if-is_null.false) c.elements.ensures c.in_ok-values.ensures
+  many_read c.args.meta.now c.args.feature c.args.scalar.now c.args.unique (view c.args.json.now) c.in_ok-values.values true
+      (map view c.elements.result.now) (sym c.is_null.ensures ∙ c.if-is_null.false) c.elements.ensures c.in_ok-values.ensures
       (ap (may_hold c.args.meta.now c.args.feature) (sym c.len.ensures) ∙ sym c.may_hold.ensures ∙ c.if-not-may_hold.false)
       ∙ ap (λ (p : Part). Ok p) (no_values c.args.feature c.in_ok-values.values (sym c.len-2.ensures ∙ c.if-len-eq0.true)),
   sym (append-nil _),
@@ -29,7 +30,8 @@ returns-then-len-eq0 c = (
 pub returns : goal.returns
 returns c = (
   attr_part c.args.feature c.in_ok-values.values,
-  many_read c.args.meta.now c.args.feature c.args.scalar.now c.args.unique (view c.args.json.now) c.in_ok-values.values true (map view c.elements.result.now) (sym c.is_null.ensures ∙ c.if-is_null.false) c.elements.ensures c.in_ok-values.ensures
+  many_read c.args.meta.now c.args.feature c.args.scalar.now c.args.unique (view c.args.json.now) c.in_ok-values.values true
+      (map view c.elements.result.now) (sym c.is_null.ensures ∙ c.if-is_null.false) c.elements.ensures c.in_ok-values.ensures
       (ap (may_hold c.args.meta.now c.args.feature) (sym c.len.ensures) ∙ sym c.may_hold.ensures ∙ c.if-not-may_hold.false)
       ∙ ap (λ (p : Part). Ok p) (some_values c.args.feature c.in_ok-values.values (λ h. c.if-len-eq0.false (c.len-2.ensures ∙ h))),
   c.in_ok-push.ensures.ok,

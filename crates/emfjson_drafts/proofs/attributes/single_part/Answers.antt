@@ -18,7 +18,8 @@ returns-then-is_null c = (
 pub returns-then-is_default : goal.returns-then-is_default
 returns-then-is_default c = (
   no_part,
-  single_set c.args.meta.now c.args.feature c.args.scalar.now (view c.args.json.now) c.in_ok-value.value true (sym c.is_null.ensures ∙ c.if-is_null.false) c.in_ok-value.ensures (sym c.is_default.ensures ∙ c.if-is_default.true),
+  single_set c.args.meta.now c.args.feature c.args.scalar.now (view c.args.json.now) c.in_ok-value.value true
+      (sym c.is_null.ensures ∙ c.if-is_null.false) c.in_ok-value.ensures (sym c.is_default.ensures ∙ c.if-is_default.true),
   sym (append-nil _),
   sym (append-nil _),
   refl,
@@ -27,7 +28,8 @@ returns-then-is_default c = (
 pub returns : goal.returns
 returns c = (
   attr_part c.args.feature (c.in_ok-value.value ∷ []),
-  single_set c.args.meta.now c.args.feature c.args.scalar.now (view c.args.json.now) c.in_ok-value.value false (sym c.is_null.ensures ∙ c.if-is_null.false) c.in_ok-value.ensures (sym c.is_default.ensures ∙ c.if-is_default.false),
+  single_set c.args.meta.now c.args.feature c.args.scalar.now (view c.args.json.now) c.in_ok-value.value false
+      (sym c.is_null.ensures ∙ c.if-is_null.false) c.in_ok-value.ensures (sym c.is_default.ensures ∙ c.if-is_default.false),
   c.in_ok-push.ensures.ok ∙ ap (λ (vs : List Value). c.args.held.now.attrs ++ record { feature = c.args.feature; values = vs } ∷ []) c.in_ok-values.ensures,
   sym (append-nil _),
   refl,

@@ -8,5 +8,6 @@ pub returns : goal.returns
 returns c =
     subst (λ (due : List ℕ). IfOk c.without.result (λ ns. ns ≡ due))
     (ap (λ (ts : List ℕ). filter (λ n. not (list_any (nat_eq n) ts)) c.naming.result.now) c.in_ok-targets.ensures
-    ∙ ap (filter (λ n. not (list_any (nat_eq n) c.args.targets.now))) c.naming.ensures ∙ sym (naming_filter c.args.g c.args.row c.args.targets.now 0 c.args.given.now))
+    ∙ ap (filter (λ n. not (list_any (nat_eq n) c.args.targets.now))) c.naming.ensures
+    ∙ sym (naming_filter c.args.g c.args.row c.args.targets.now 0 c.args.given.now))
     c.without.ensures

@@ -14,5 +14,6 @@ loop-row-preserved c = λ q.
     let i = c.loop-row.row-index in
     c.in_ok-add_source.ensures q
     ∙ ap (also n (parent_eq (record { row = get_or ts i 0; feature = g }) q)) (c.loop-row.invariant q)
-    ∙ also_also n (list_any (nat_eq q.row) (take i ts) && nat_eq g q.feature) (parent_eq (record { row = get_or ts i 0; feature = g }) q) (numbers_at c.args.numbers.now q)
+    ∙ also_also n (list_any (nat_eq q.row) (take i ts) && nat_eq g q.feature) (parent_eq (record { row = get_or ts i 0; feature = g }) q)
+    (numbers_at c.args.numbers.now q)
     ∙ ap (λ b. also n b (numbers_at c.args.numbers.now q)) (target_more ts i g q c.loop-row-test.true)

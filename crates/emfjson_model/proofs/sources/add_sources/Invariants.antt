@@ -6,4 +6,6 @@ use Rattle.emfjson_model.specs.Sources.{also}
 use Rattle.emfjson_model.proofs.sources.add_sources.Given as goal
 
 abbrev pub invariant-loop-row : goal.invariant-loop-row
-invariant-loop-row l = (q : DocParent) → numbers_at l.numbers q ≡ also l.n (list_any (nat_eq q.row) (take l.row-index l.targets) && nat_eq l.feature q.feature) (numbers_at l.initial.numbers q)
+invariant-loop-row l = (q : DocParent)
+    → numbers_at l.numbers q ≡ also l.n (list_any (nat_eq q.row) (take l.row-index l.targets) && nat_eq l.feature q.feature)
+    (numbers_at l.initial.numbers q)

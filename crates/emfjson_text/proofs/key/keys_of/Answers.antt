@@ -15,7 +15,8 @@ returns c =
     let meta = c.args.meta.now in
     c.from_vec.ensures
     ∙ sorted_is (key_order meta) c.push_features.new.keys.items c.sort_unstable_by.new.self.items c.sort_unstable_by.ensures.permutation
-    (c.sort_unstable_by.ensures.sorted (λ x y. is_lt (key_cmp meta x y)) (ranks_by (key_order meta).total (λ x. x)) (always_returns_same _ _ _ (λ a r f' k. search rules)))
+    (c.sort_unstable_by.ensures.sorted (λ x y. is_lt (key_cmp meta x y)) (ranks_by (key_order meta).total (λ x. x))
+    (always_returns_same _ _ _ (λ a r f' k. search rules)))
     ∙ ap (in_order (key_cmp meta))
     (c.in_ok-push_features.ensures
     ∙ ap₂ (λ l fs. l ++ map (λ f. Feature f) fs)

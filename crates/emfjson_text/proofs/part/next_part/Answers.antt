@@ -10,8 +10,12 @@ returns-then-not-is_absent g c =
     let meta = c.args.meta.now in
     let m = g.L.Look.state c.args.look.now in
     let o = c.args.object.now in
-    let here = entry_at _ c.loop-at.at Ident c.loop-at-test.true ∙ ap (λ ks. slice_get ks c.loop-at.at) c.loop-at.invariant.keys in
-    (c.loop-at.invariant.same ∙ key_found meta m o.id o.class o.keys c.loop-at.at _ here, c.in_ok-part.ensures (whole meta m), sym c.is_absent.ensures ∙ c.if-not-is_absent.true)
+    let here = entry_at _ c.loop-at.at Ident c.loop-at-test.true ∙ ap (λ ks. slice_get ks c.loop-at.at) c.loop-at.invariant.keys in (
+      c.loop-at.invariant.same ∙ key_found meta m o.id o.class o.keys c.loop-at.at _ here,
+      c.in_ok-part.ensures (whole meta m),
+      sym c.is_absent.ensures
+          ∙ c.if-not-is_absent.true,
+    )
 
 pub loop-at-preserved : goal.loop-at-preserved
 loop-at-preserved g c =
@@ -22,7 +26,8 @@ loop-at-preserved g c =
     record {
       keys = c.loop-at.invariant.keys;
       same = c.loop-at.invariant.same
-          ∙ key_absent meta m o.id o.class o.keys c.loop-at.at _ c.in_ok-part.part here (c.in_ok-part.ensures (whole meta m)) (sym c.is_absent.ensures ∙ c.if-not-is_absent.false);
+          ∙ key_absent meta m o.id o.class o.keys c.loop-at.at _ c.in_ok-part.part here (c.in_ok-part.ensures (whole meta m))
+          (sym c.is_absent.ensures ∙ c.if-not-is_absent.false);
     }
 
 pub returns : goal.returns

@@ -18,7 +18,9 @@ loop-frame-init g c =
     record {
       nested = text_is_whole meta m c.requires.good;
       all = c.in_ok-begin_list.ensures.all
-          ∙ ap₂ (λ out stack. out ++ (compact_text (one_or_list true (map (whole meta m) (entry_ids c.in_ok-roots.roots))) ++ stack_text meta m stack)) c.new-writer.ensures.out c.new-writer.ensures.begun
+          ∙ ap₂ (λ out stack. out
+          ++ (compact_text (one_or_list true (map (whole meta m) (entry_ids c.in_ok-roots.roots))) ++ stack_text meta m stack))
+          c.new-writer.ensures.out c.new-writer.ensures.begun
           ∙ append-nil _ ∙ ap (λ roots. compact_text (one_or_list true (map (whole meta m) (entry_ids roots)))) c.in_ok-roots.ensures;
     }
 
@@ -43,6 +45,8 @@ returns g c =
     let meta = c.args.meta.now in
     let m = g.L.Look.state c.args.look.now in
     let all : IfOk c.new.result (λ (t : List ℕ). t ≡ text meta m) = subst (λ (s : List ℕ). IfOk c.new.result (λ (t : List ℕ). t ≡ s))
-    (c.as_str.ensures.value ∙ all_written meta m c.loop-frame.writer.begun.items (string_bytes c.loop-frame.writer.out) (text meta m) (sym c.loop-frame.writer.begun.ok.0 ∙ c.in_default.ensures.cases.0) c.loop-frame.invariant.all)
+    (c.as_str.ensures.value
+    ∙ all_written meta m c.loop-frame.writer.begun.items (string_bytes c.loop-frame.writer.out) (text meta m)
+    (sym c.loop-frame.writer.begun.ok.0 ∙ c.in_default.ensures.cases.0) c.loop-frame.invariant.all)
     c.new.ensures in
     record { text = all }

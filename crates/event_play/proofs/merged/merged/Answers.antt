@@ -20,11 +20,14 @@ returns-then-len-eq0-clause-cannot c =
     let hist : s.history ≡ g = c.in-Some.ensures.history in
     let plan = c.in_ok-plan.plan in
     let theirs = plan_theirs s.history g w c.args.branch c.head-version.result plan.theirs hist c.head-version.ensures.head c.in_ok-plan.ensures.plan.theirs in
-    let rows = plan_rows meta s.history g w c.args.branch c.head-version.result plan.buckets.rows hist c.head-version.ensures.head c.in_ok-plan.ensures.plan.buckets in
+    let rows = plan_rows meta s.history g w c.args.branch c.head-version.result plan.buckets.rows hist c.head-version.ensures.head
+    c.in_ok-plan.ensures.plan.buckets in
     λ _. elim c.then-len-eq0.branch [
-      | then-len-eq0-via-then-len-eq0 way ↦ cannot_nothing s meta c.args.ws c.args.branch c.args.letters.now w begun there (nothing_left s.history w (head s.history c.args.branch) plan.theirs theirs (sym c.len.ensures ∙ way.if-len-eq0.true))
+      | then-len-eq0-via-then-len-eq0 way ↦ cannot_nothing s meta c.args.ws c.args.branch c.args.letters.now w begun there
+          (nothing_left s.history w (head s.history c.args.branch) plan.theirs theirs (sym c.len.ensures ∙ way.if-len-eq0.true))
       | then-len-eq0-via-else-len-eq0+then-not-are_choices way ↦ cannot_misfit s meta c.args.ws c.args.branch c.args.letters.now w begun there
-          (ap (are_choices c.args.letters.now) (sym rows) ∙ ap (λ (l : List Bucket). are_choices c.args.letters.now l) (sym way.as_slice.ensures) ∙ ap (λ (l : List ℕ). are_choices l way.as_slice.result.now) (sym way.as_str.ensures) ∙ sym way.if-not-are_choices.ensures)
+          (ap (are_choices c.args.letters.now) (sym rows) ∙ ap (λ (l : List Bucket). are_choices c.args.letters.now l) (sym way.as_slice.ensures)
+          ∙ ap (λ (l : List ℕ). are_choices l way.as_slice.result.now) (sym way.as_str.ensures) ∙ sym way.if-not-are_choices.ensures)
     ]
 
 pub returns-clause-could : goal.returns-clause-could
@@ -38,11 +41,14 @@ returns-clause-could c =
     let hist : s.history ≡ g = c.in-Some.ensures.history in
     let plan = c.in_ok-plan.plan in
     let theirs = plan_theirs s.history g w c.args.branch c.head-version.result plan.theirs hist c.head-version.ensures.head c.in_ok-plan.ensures.plan.theirs in
-    let rows = plan_rows meta s.history g w c.args.branch c.head-version.result plan.buckets.rows hist c.head-version.ensures.head c.in_ok-plan.ensures.plan.buckets in
+    let rows = plan_rows meta s.history g w c.args.branch c.head-version.result plan.buckets.rows hist c.head-version.ensures.head
+    c.in_ok-plan.ensures.plan.buckets in
     let some = something_left s.history w (head s.history c.args.branch) plan.theirs theirs (λ none. c.if-len-eq0.false (c.len.ensures ∙ none)) in
     let low : c.args.branch < length g.branches = omega (arith, c.if-branch-branch_count.false, c.branch_count.ensures.count) in
-    let fit = ap (are_choices c.args.letters.now) (sym rows) ∙ ap (λ (l : List Bucket). are_choices c.args.letters.now l) (sym c.as_slice.ensures) ∙ ap (λ (l : List ℕ). are_choices l c.as_slice.result.now) (sym c.as_str.ensures) ∙ sym c.if-not-are_choices.ensures in
-    merge_could s meta c.args.ws c.args.branch c.args.letters.now w begun there (sym c.is_open.ensures.open ∙ c.if-is_open.false) (subst (λ (h : History). c.args.branch < length h.branches) (sym hist) low) c.if-branch-workspace.false some fit
+    let fit = ap (are_choices c.args.letters.now) (sym rows) ∙ ap (λ (l : List Bucket). are_choices c.args.letters.now l) (sym c.as_slice.ensures)
+    ∙ ap (λ (l : List ℕ). are_choices l c.as_slice.result.now) (sym c.as_str.ensures) ∙ sym c.if-not-are_choices.ensures in
+    merge_could s meta c.args.ws c.args.branch c.args.letters.now w begun there (sym c.is_open.ensures.open ∙ c.if-is_open.false)
+    (subst (λ (h : History). c.args.branch < length h.branches) (sym hist) low) c.if-branch-workspace.false some fit
 
 pub returns-clause-leads : goal.returns-clause-leads
 returns-clause-leads c =
@@ -55,9 +61,11 @@ returns-clause-leads c =
     let hist : s.history ≡ g = c.in-Some.ensures.history in
     let plan = c.in_ok-plan.plan in
     let theirs = plan_theirs s.history g w c.args.branch c.head-version.result plan.theirs hist c.head-version.ensures.head c.in_ok-plan.ensures.plan.theirs in
-    let rows = plan_rows meta s.history g w c.args.branch c.head-version.result plan.buckets.rows hist c.head-version.ensures.head c.in_ok-plan.ensures.plan.buckets in
+    let rows = plan_rows meta s.history g w c.args.branch c.head-version.result plan.buckets.rows hist c.head-version.ensures.head
+    c.in_ok-plan.ensures.plan.buckets in
     let mine = plan_mine meta s.history g w c.args.branch c.head-version.result plan.mine hist c.head-version.ensures.head c.in_ok-plan.ensures.plan.mine in
     let at = c.head-version.ensures.head ∙ ap (λ (h : History). head h c.args.branch) (sym hist) in
     let list = c.in_ok-more.ensures.list ∙ ap (λ (l : List ℕ). merge_list plan.theirs plan.mine plan.buckets.rows (map side_of l)) c.as_str-2.ensures in
-    let is = merge_is meta s.history w (head s.history c.args.branch) c.args.letters.now plan.theirs plan.mine c.in_ok-more.more plan.buckets.rows theirs mine rows list in
+    let is = merge_is meta s.history w
+    (head s.history c.args.branch) c.args.letters.now plan.theirs plan.mine c.in_ok-more.more plan.buckets.rows theirs mine rows list in
     merge_leads s meta c.args.ws c.args.branch c.args.letters.now w c.in_ok-more.more c.head-version.result begun there at is

@@ -12,7 +12,8 @@ returns-clause-leads c =
     let w = plain_of c.in-Some-workspace.workspace.now in
     let begun : s.meta ≡ Some meta = c.in-Some.ensures.meta in
     let there = sym c.in-Some-workspace.ensures.found in
-    tidy_leads s meta c.args.ws w c.in_ok-list.list begun there (c.in_ok-list.ensures.tidied ∙ ap (tidy meta) (c.in_ok-package.ensures.copied ∙ c.operations.ensures))
+    tidy_leads s meta c.args.ws w c.in_ok-list.list begun there
+    (c.in_ok-list.ensures.tidied ∙ ap (tidy meta) (c.in_ok-package.ensures.copied ∙ c.operations.ensures))
 
 pub returns-clause-model : goal.returns-clause-model
 returns-clause-model c =

@@ -8,6 +8,7 @@ update-requires c =
     record {
       there = update_there s s.meta c.args.ws c.args.letters.now c.in_ok-updated.ensures.could;
       closed = update_closed s s.meta c.args.ws c.args.letters.now c.in_ok-updated.ensures.could;
-      orderly = put_orderly s _ (Update c.args.ws c.args.letters.now) c.in_ok-updated.ensures.could c.requires.spelled c.orderly.ensures c.in_ok-updated.ensures.leads;
+      orderly = put_orderly s _
+          (Update c.args.ws c.args.letters.now) c.in_ok-updated.ensures.could c.requires.spelled c.orderly.ensures c.in_ok-updated.ensures.leads;
       theirs = c.in_ok-updated.ensures.theirs;
     }

@@ -20,7 +20,8 @@ returns-clause-leads c =
     let plan = c.in_ok-plan.plan in
     let at = c.head-head.ensures.head ∙ ap (λ (h : History). head h w.branch) (sym hist) in
     let list = c.in_ok-operations.ensures.list ∙ ap (λ (l : List ℕ). update_list plan.theirs plan.mine plan.buckets.rows (map side_of l)) c.as_str-2.ensures in
-    let is = update_is meta s.history g w c.args.letters.now plan.theirs plan.mine c.in_ok-operations.operations plan.buckets.rows hist c.in_ok-plan.ensures.plan.theirs c.in_ok-plan.ensures.plan.mine c.in_ok-plan.ensures.plan.buckets list in
+    let is = update_is meta s.history g w c.args.letters.now plan.theirs plan.mine c.in_ok-operations.operations plan.buckets.rows hist
+    c.in_ok-plan.ensures.plan.theirs c.in_ok-plan.ensures.plan.mine c.in_ok-plan.ensures.plan.buckets list in
     update_leads s meta c.args.ws c.args.letters.now w c.head-head.result c.in_ok-operations.operations begun there at is
 
 pub returns-clause-theirs : goal.returns-clause-theirs

@@ -13,34 +13,42 @@ begin-requires-clause-short c = omega (arith, text_shorter c.in-Init.text, ap (�
 
 pub open_composite-requires-clause-there : goal.open_composite-requires-clause-there
 open_composite-requires-clause-there c =
-    begin_there c.args.repo.now c.args.repo.now.meta c.in-Begin.ws c.in-Begin.name (subst (λ (e : Event). (is_tested_late e || playable_with c.args.repo.now c.args.repo.now.meta e) ≡ true) c.in-Begin.is c.requires.tested)
+    begin_there c.args.repo.now c.args.repo.now.meta c.in-Begin.ws c.in-Begin.name
+    (subst (λ (e : Event). (is_tested_late e || playable_with c.args.repo.now c.args.repo.now.meta e) ≡ true) c.in-Begin.is c.requires.tested)
 
 pub close_composite-requires-clause-there : goal.close_composite-requires-clause-there
 close_composite-requires-clause-there c =
-    end_there c.args.repo.now c.args.repo.now.meta c.in-End.ws (subst (λ (e : Event). (is_tested_late e || playable_with c.args.repo.now c.args.repo.now.meta e) ≡ true) c.in-End.is c.requires.tested)
+    end_there c.args.repo.now c.args.repo.now.meta c.in-End.ws
+    (subst (λ (e : Event). (is_tested_late e || playable_with c.args.repo.now c.args.repo.now.meta e) ≡ true) c.in-End.is c.requires.tested)
 
 pub undo-requires-clause-there : goal.undo-requires-clause-there
 undo-requires-clause-there c =
-    undo_there c.args.repo.now c.args.repo.now.meta c.in-Undo.ws (subst (λ (e : Event). (is_tested_late e || playable_with c.args.repo.now c.args.repo.now.meta e) ≡ true) c.in-Undo.is c.requires.tested)
+    undo_there c.args.repo.now c.args.repo.now.meta c.in-Undo.ws
+    (subst (λ (e : Event). (is_tested_late e || playable_with c.args.repo.now c.args.repo.now.meta e) ≡ true) c.in-Undo.is c.requires.tested)
 
 pub discard-requires-clause-there : goal.discard-requires-clause-there
 discard-requires-clause-there c =
-    discard_there c.args.repo.now c.args.repo.now.meta c.in-Discard.ws (subst (λ (e : Event). (is_tested_late e || playable_with c.args.repo.now c.args.repo.now.meta e) ≡ true) c.in-Discard.is c.requires.tested)
+    discard_there c.args.repo.now c.args.repo.now.meta c.in-Discard.ws
+    (subst (λ (e : Event). (is_tested_late e || playable_with c.args.repo.now c.args.repo.now.meta e) ≡ true) c.in-Discard.is c.requires.tested)
 
 pub commit-requires-clause-there : goal.commit-requires-clause-there
 commit-requires-clause-there c =
-    commit_there c.args.repo.now c.args.repo.now.meta c.in-Commit.ws c.in-Commit.message (subst (λ (e : Event). (is_tested_late e || playable_with c.args.repo.now c.args.repo.now.meta e) ≡ true) c.in-Commit.is c.requires.tested)
+    commit_there c.args.repo.now c.args.repo.now.meta c.in-Commit.ws c.in-Commit.message
+    (subst (λ (e : Event). (is_tested_late e || playable_with c.args.repo.now c.args.repo.now.meta e) ≡ true) c.in-Commit.is c.requires.tested)
 
 pub branch-repo-requires-clause-there : goal.branch-repo-requires-clause-there
 branch-repo-requires-clause-there c =
-    branch_there c.args.repo.now c.args.repo.now.meta c.in-Branch.ws c.in-Branch.name (subst (λ (e : Event). (is_tested_late e || playable_with c.args.repo.now c.args.repo.now.meta e) ≡ true) c.in-Branch.is c.requires.tested)
+    branch_there c.args.repo.now c.args.repo.now.meta c.in-Branch.ws c.in-Branch.name
+    (subst (λ (e : Event). (is_tested_late e || playable_with c.args.repo.now c.args.repo.now.meta e) ≡ true) c.in-Branch.is c.requires.tested)
 
 pub drop_workspace-requires-clause-there : goal.drop_workspace-requires-clause-there
 drop_workspace-requires-clause-there c =
-    drop_there c.args.repo.now c.args.repo.now.meta c.in-Drop.ws (subst (λ (e : Event). (is_tested_late e || playable_with c.args.repo.now c.args.repo.now.meta e) ≡ true) c.in-Drop.is c.requires.tested)
+    drop_there c.args.repo.now c.args.repo.now.meta c.in-Drop.ws
+    (subst (λ (e : Event). (is_tested_late e || playable_with c.args.repo.now c.args.repo.now.meta e) ≡ true) c.in-Drop.is c.requires.tested)
 
 pub evolve-requires-clause-short : goal.evolve-requires-clause-short
-evolve-requires-clause-short c = omega (arith, evolve_text_shorter c.in-Evolve.text, ap (λ (e : Event). length (event_encoding e)) c.in-Evolve.is, c.requires.short)
+evolve-requires-clause-short c =
+    omega (arith, evolve_text_shorter c.in-Evolve.text, ap (λ (e : Event). length (event_encoding e)) c.in-Evolve.is, c.requires.short)
 
 pub commit-signed-requires-clause-there : goal.commit-signed-requires-clause-there
 commit-signed-requires-clause-there c =

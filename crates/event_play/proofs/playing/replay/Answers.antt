@@ -5,16 +5,24 @@ use Rattle.event_play.proofs.Replaying.{replayed}
 use Rattle.event_play.proofs.playing.replay.Goals as goal
 
 pub returns-in-Err-NotForm-clause-refused : goal.returns-in-Err-NotForm-clause-refused
-returns-in-Err-NotForm-clause-refused c = λ is event could bytes_are. none_spelled c.args.repo.now c.args.bytes.now c.in-Err-NotForm.field-0 (rw c.in-Err-NotForm.field-0-is (rw c.in-Err-NotForm.field-0-is at c.in-Err-NotForm.ensures.read)) event could bytes_are
+returns-in-Err-NotForm-clause-refused c =
+    λ is event could bytes_are.
+    none_spelled c.args.repo.now c.args.bytes.now c.in-Err-NotForm.field-0
+    (rw c.in-Err-NotForm.field-0-is (rw c.in-Err-NotForm.field-0-is at c.in-Err-NotForm.ensures.read)) event could bytes_are
 
 pub make-requires-clause-event : goal.make-requires-clause-event
-make-requires-clause-event c = is_event_holds c.in-Ok.event (decoded c.args.bytes.now c.in-Ok.event (λ i. omega (arith, c.type_inv.bytes i)) c.in-Ok.ensures.read).0
+make-requires-clause-event c =
+    is_event_holds c.in-Ok.event (decoded c.args.bytes.now c.in-Ok.event (λ i. omega (arith, c.type_inv.bytes i)) c.in-Ok.ensures.read).0
 
 pub make-requires-clause-size : goal.make-requires-clause-size
 make-requires-clause-size c = ap length (decoded c.args.bytes.now c.in-Ok.event (λ i. omega (arith, c.type_inv.bytes i)) c.in-Ok.ensures.read).1
 
 pub returns-clause-played : goal.returns-clause-played
-returns-clause-played c = replayed c.make.result c.args.repo.now c.make.new.repo c.args.bytes.now c.in-Ok.event (decoded c.args.bytes.now c.in-Ok.event (λ i. omega (arith, c.type_inv.bytes i)) c.in-Ok.ensures.read).1 c.make.ensures.could c.make.ensures.made
+returns-clause-played c =
+    replayed c.make.result c.args.repo.now c.make.new.repo c.args.bytes.now c.in-Ok.event
+    (decoded c.args.bytes.now c.in-Ok.event (λ i. omega (arith, c.type_inv.bytes i)) c.in-Ok.ensures.read).1 c.make.ensures.could c.make.ensures.made
 
 pub returns-clause-refused : goal.returns-clause-refused
-returns-clause-refused c = λ is event could bytes_are. other_spelled c.args.repo.now c.args.bytes.now c.in-Ok.event c.in-Ok.ensures.read (c.make.ensures.cannot is) event could bytes_are
+returns-clause-refused c =
+    λ is event could bytes_are.
+    other_spelled c.args.repo.now c.args.bytes.now c.in-Ok.event c.in-Ok.ensures.read (c.make.ensures.cannot is) event could bytes_are

@@ -8,7 +8,9 @@ append-requires-clause-ready g c =
     (c.args.form.now, c.in_ok-prepared-in-Yes.ensures.holds, record { short = omega (arith, fit.short); room = omega (arith, fit.room, c.end.ensures.place) })
 
 pub returns-in_err-append-in-Yes : goal.returns-in_err-append-in-Yes
-returns-in_err-append-in-Yes g c = let size = length-after_gate c.args.form.now in omega (arith, size, c.requires.none, c.append.ensures.out, c.in_ok-prepared-in-Yes.ensures.out, c.in_ok-prepared-in-Yes.ensures.holds.count)
+returns-in_err-append-in-Yes g c = let size = length-after_gate c.args.form.now
+    in omega (arith, size, c.requires.none, c.append.ensures.out, c.in_ok-prepared-in-Yes.ensures.out, c.in_ok-prepared-in-Yes.ensures.holds.count)
 
 pub returns-in_ok-append-in-Yes : goal.returns-in_ok-append-in-Yes
-returns-in_ok-append-in-Yes g c = let size = length-after_gate c.args.form.now in omega (arith, size, c.requires.none, c.append.ensures.out, c.in_ok-prepared-in-Yes.ensures.out, c.in_ok-prepared-in-Yes.ensures.holds.count)
+returns-in_ok-append-in-Yes g c = let size = length-after_gate c.args.form.now
+    in omega (arith, size, c.requires.none, c.append.ensures.out, c.in_ok-prepared-in-Yes.ensures.out, c.in_ok-prepared-in-Yes.ensures.holds.count)

@@ -13,6 +13,7 @@ next_bytes-requires-2 g c = record {
       let walked = rw c.in-Some.is at c.in_ok-next_bytes.ensures.walked in
       let told_1 = told_before (g.H.Host.told c.mount.new.host) (g.H.Host.told c.next_bytes.new.host) c.next_bytes.ensures.course told in
       let told_0 = told_before (g.H.Host.told c.args.host.now) (g.H.Host.told c.mount.new.host) c.mount.ensures.course told_1 in
-      let begun = subst (λ (n : ℕ). IsWalked (disk_now (g.H.Host.told c.mount.new.host)) [] n) (sym (ap (λ (w : WalkState). w.next) c.in_ok-walk.ensures.ok)) (c.in_ok-walk.ensures.walked told_0) in
+      let begun = subst (λ (n : ℕ). IsWalked (disk_now (g.H.Host.told c.mount.new.host)) [] n)
+      (sym (ap (λ (w : WalkState). w.next) c.in_ok-walk.ensures.ok)) (c.in_ok-walk.ensures.walked told_0) in
       ([] ++ c.in-Some.field-0.items ∷ [], walked told_1 [] begun);
 }

@@ -9,5 +9,10 @@ use Rattle.footprint.proofs.sorting.sorted_places.Goals as goal
 
 pub returns : goal.returns
 returns c =
-    let sorted = c.sort_unstable_by.ensures.sorted (λ i j. is_lt (place_cmp c.args.list.now i j)) (ranks_by (place_total c.args.list.now) (λ i. i)) (always_returns_same _ _ _ (λ a r f' k. search rules)) in
-    λ some. (sorted, places_moved c.args.list.now c.in_ok-order.order.items c.sort_unstable_by.new.self.items c.in_ok-order.ensures c.sort_unstable_by.ensures.permutation)
+    let sorted = c.sort_unstable_by.ensures.sorted (λ i j. is_lt (place_cmp c.args.list.now i j)) (ranks_by (place_total c.args.list.now) (λ i. i))
+    (always_returns_same _ _ _ (λ a r f' k. search rules)) in
+    λ some. (
+      sorted,
+      places_moved c.args.list.now c.in_ok-order.order.items c.sort_unstable_by.new.self.items c.in_ok-order.ensures
+          c.sort_unstable_by.ensures.permutation,
+    )

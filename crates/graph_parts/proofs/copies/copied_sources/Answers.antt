@@ -12,7 +12,8 @@ use Rattle.graph_parts.proofs.copies.copied_sources.Goals as goal
 
 pub loop-key-preserved : goal.loop-key-preserved
 loop-key-preserved c =
-    table_updates attr_order c.loop-key.copy c.insert.new.self (c.in_ok-copy.field-0, c.in-Some.key.now.1) (Some c.in-Some.rank.now) c.in_ok-insert.ensures.updates.0
+    table_updates attr_order c.loop-key.copy c.insert.new.self (c.in_ok-copy.field-0, c.in-Some.key.now.1)
+    (Some c.in-Some.rank.now) c.in_ok-insert.ensures.updates.0
     ∙ (λ i. set (c.loop-key.invariant i) ((c.in_ok-copy.ensures i, c.in-Some.key.now.1)) (Some (c.in-Some.rank.now)))
     ∙ sym (set_all_more empty (map deref_pair c.loop-key.yielded) (c.in-Some.key.now, c.in-Some.rank.now))
     ∙ ap (λ es. set_all empty (puts es)) (sym (map_more deref_pair c.loop-key.yielded (c.in-Some.key, c.in-Some.rank)))

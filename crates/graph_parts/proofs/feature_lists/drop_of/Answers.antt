@@ -16,11 +16,13 @@ drop_listed-requires c =
 pub returns-in-None-clause-items : goal.returns-in-None-clause-items
 returns-in-None-clause-items c =
     let xs = c.args.items.now.items in
-    let none = get_none c.args.f xs (ap (position (λ (x : ℕ × Ranks). nat_eq x.0 c.args.f)) (sym c.as_slice.ensures.value) ∙ sym c.index_of.ensures ∙ c.in-None.is) in
+    let none = get_none c.args.f xs
+    (ap (position (λ (x : ℕ × Ranks). nat_eq x.0 c.args.f)) (sym c.as_slice.ensures.value) ∙ sym c.index_of.ensures ∙ c.in-None.is) in
     sym (set_here nat_order (flat xs) c.args.f _ (none ∙ ap (option_map (λ (g : Ranks). set g c.args.e.now None)) (sym none)))
 
 pub returns-in-None-clause-emptied : goal.returns-in-None-clause-emptied
 returns-in-None-clause-emptied c =
     let xs = c.args.items.now.items in
-    let none = get_none c.args.f xs (ap (position (λ (x : ℕ × Ranks). nat_eq x.0 c.args.f)) (sym c.as_slice.ensures.value) ∙ sym c.index_of.ensures ∙ c.in-None.is) in
+    let none = get_none c.args.f xs
+    (ap (position (λ (x : ℕ × Ranks). nat_eq x.0 c.args.f)) (sym c.as_slice.ensures.value) ∙ sym c.index_of.ensures ∙ c.in-None.is) in
     ap (λ o. is_emptied (option_map (λ (g : Ranks). set g c.args.e.now None) o)) (sym none)

@@ -19,8 +19,10 @@ put_first-requires c =
 pub returns-in-None-clause-ok : goal.returns-in-None-clause-ok
 returns-in-None-clause-ok c =
     let xs = c.args.items.now.items in
-    let none = get_none c.args.f xs (ap (position (λ (x : ℕ × Ranks). nat_eq x.0 c.args.f)) (sym c.as_slice.ensures.value) ∙ sym c.index_of.ensures ∙ c.in-None.is) in
-    on_ok_weaker c.put_first.result (λ is. is ∙ ap (λ o. set (flat xs) c.args.f (Some (set (unwrap_or o empty) c.args.e (Some c.args.rank)))) (sym none)) c.put_first.ensures.ok
+    let none = get_none c.args.f xs
+    (ap (position (λ (x : ℕ × Ranks). nat_eq x.0 c.args.f)) (sym c.as_slice.ensures.value) ∙ sym c.index_of.ensures ∙ c.in-None.is) in
+    on_ok_weaker c.put_first.result
+    (λ is. is ∙ ap (λ o. set (flat xs) c.args.f (Some (set (unwrap_or o empty) c.args.e (Some c.args.rank)))) (sym none)) c.put_first.ensures.ok
 
 pub returns-in-None-clause-err : goal.returns-in-None-clause-err
 returns-in-None-clause-err c = on_err_weaker c.put_first.result (λ is. ap flat is) c.put_first.ensures.err

@@ -4,7 +4,9 @@ use Rattle.history_tree.proofs.Named.{knows_more, knows_same}
 use Rattle.history_tree.proofs.history.enter_branch.Goals as goal
 
 pub returns-in_err-enter : goal.returns-in_err-enter
-returns-in_err-enter c = knows_same (λ (x : Branch). x.name) c.args.index.now c.enter.new.self c.args.branches.now c.requires.knows c.in_err-enter.ensures.same c.in_err-enter.ensures.same_count
+returns-in_err-enter c =
+    knows_same (λ (x : Branch). x.name) c.args.index.now c.enter.new.self c.args.branches.now c.requires.knows c.in_err-enter.ensures.same
+    c.in_err-enter.ensures.same_count
 
 pub returns : goal.returns
 returns c =

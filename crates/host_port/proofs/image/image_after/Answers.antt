@@ -13,8 +13,10 @@ loop-call-preserved c =
     subst
     (λ l. take (c.loop-call.call-index + 1) l ≡ take c.loop-call.call-index l ++ c.call-item.result ∷ [])
     c.deref-call-items.ensures.value
-    (take_more shown c.loop-call.call-index c.call-item.result c.loop-call-test.true ∙ ap (λ x. take c.loop-call.call-index shown ++ x ∷ []) (sym c.call-item.is)) in
-    follows_calls c.args.first.now.items c.args.fill done _ c.call-item.result _ _ more (c.in_ok-follow.ensures (after_calls (at_start c.args.first.now.items) done) c.loop-call.invariant)
+    (take_more shown c.loop-call.call-index c.call-item.result c.loop-call-test.true
+    ∙ ap (λ x. take c.loop-call.call-index shown ++ x ∷ []) (sym c.call-item.is)) in
+    follows_calls c.args.first.now.items c.args.fill done _ c.call-item.result _ _ more
+    (c.in_ok-follow.ensures (after_calls (at_start c.args.first.now.items) done) c.loop-call.invariant)
 
 pub returns-clause-left : goal.returns-clause-left
 returns-clause-left c =

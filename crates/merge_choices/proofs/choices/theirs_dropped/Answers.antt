@@ -9,7 +9,9 @@ pub loop-k-preserved : goal.loop-k-preserved
 loop-k-preserved c =
     let low : c.loop-k.k < length c.args.sides.now = omega (arith, c.loop-k-test.true, c.requires) in
     let side : Side = get_or c.args.sides.now c.loop-k.k Mine in
-    theirs_more c.args.buckets.now c.args.sides.now c.loop-k.k c.index-buckets-k.result side c.loop-k-test.true low c.index-buckets-k.is (get_any c.args.sides.now c.loop-k.k Mine side low) c.loop-k.flags.items c.flag_theirs.new.flags.items c.args.size c.loop-k.invariant c.flag_theirs.ensures
+    theirs_more c.args.buckets.now c.args.sides.now c.loop-k.k c.index-buckets-k.result side c.loop-k-test.true low c.index-buckets-k.is
+    (get_any c.args.sides.now c.loop-k.k Mine side low) c.loop-k.flags.items c.flag_theirs.new.flags.items c.args.size c.loop-k.invariant
+    c.flag_theirs.ensures
 
 pub returns : goal.returns
 returns c = theirs_end c.args.buckets.now c.args.sides.now c.loop-k.k c.loop-k.flags.items c.args.size c.loop-k-test.false c.loop-k.invariant

@@ -13,8 +13,10 @@ loop-i-preserved c =
     let i = c.loop-i.i in
     elim c.if-not-flags-i.branch [
       | then-not-flags-i+in_ok-copy+in_ok-push w ↦
-          ap (λ l. l ++ kept (λ j. p ((i + 1) + j)) (drop (i + 1) ops)) (w.out-is ∙ w.in_ok-push.ensures.ok ∙ ap (λ x. c.loop-i.out ++ x ∷ []) w.in_ok-copy.ensures)
-          ∙ keeps_one p ops c.loop-i.out i w.index-ops-i.result c.loop-i-test.true w.index-ops-i.is (c.args.out.now ++ kept p ops) w.if-not-flags-i.true c.loop-i.invariant
+          ap (λ l. l ++ kept (λ j. p ((i + 1) + j)) (drop (i + 1) ops))
+          (w.out-is ∙ w.in_ok-push.ensures.ok ∙ ap (λ x. c.loop-i.out ++ x ∷ []) w.in_ok-copy.ensures)
+          ∙ keeps_one p ops c.loop-i.out i w.index-ops-i.result c.loop-i-test.true w.index-ops-i.is
+          (c.args.out.now ++ kept p ops) w.if-not-flags-i.true c.loop-i.invariant
       | else-not-flags-i w ↦
           let at = at_index ops i c.loop-i-test.true in
           ap (λ l. l ++ kept (λ j. p ((i + 1) + j)) (drop (i + 1) ops)) w.out-is

@@ -13,7 +13,8 @@ loop-i-preserved c =
     let i = c.loop-i.i in
     elim c.if-flags-i.branch [
       | then-flags-i+in_ok-copy+in_ok-push w ↦
-          ap (λ l. l ++ dropped (λ j. p ((i + 1) + j)) (drop (i + 1) ops)) (w.out-is ∙ w.in_ok-push.ensures.ok ∙ ap (λ x. c.loop-i.out ++ x ∷ []) w.in_ok-copy.ensures)
+          ap (λ l. l ++ dropped (λ j. p ((i + 1) + j)) (drop (i + 1) ops))
+          (w.out-is ∙ w.in_ok-push.ensures.ok ∙ ap (λ x. c.loop-i.out ++ x ∷ []) w.in_ok-copy.ensures)
           ∙ drops_one p ops c.loop-i.out i w.index-ops-i.result c.loop-i-test.true w.index-ops-i.is (dropped p ops) w.if-flags-i.true c.loop-i.invariant
       | else-flags-i w ↦
           let at = at_index ops i c.loop-i-test.true in

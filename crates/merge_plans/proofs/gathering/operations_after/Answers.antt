@@ -10,5 +10,6 @@ loop-u-preserved c =
     let vs = c.args.history.now.history.versions in
     let us = c.as_slice-u-items.result.now in
     let i = c.loop-u.u-index in
-    let at : package_at vs (slice_index_or us i 0) ≡ c.as_slice.result.now = ap (λ (o : Option Version). option_map_or (λ v. v.«package») o []) c.version.ensures.version ∙ sym c.as_slice.ensures in
+    let at : package_at vs (slice_index_or us i 0) ≡ c.as_slice.result.now =
+    ap (λ (o : Option Version). option_map_or (λ v. v.«package») o []) c.version.ensures.version ∙ sym c.as_slice.ensures in
     operations_more vs us c.loop-u.out c.push_copies.new.out c.as_slice.result.now i 0 c.loop-u-test.true c.loop-u.invariant c.in_ok-push_copies.ensures at

@@ -7,4 +7,5 @@ loop-operation-init c = sym (append-nil c.args.out.now)
 
 pub loop-operation-preserved : goal.loop-operation-preserved
 loop-operation-preserved c =
-    copied_more c.args.out.now c.loop-operation.out c.push.new.self c.args.operations.now c.loop-operation.operation-index c.operation-item.result c.in_ok-copy.field-0 c.loop-operation-test.true c.loop-operation.invariant c.in_ok-push.ensures.ok (c.in_ok-copy.ensures ∙ c.operation-item.is)
+    copied_more c.args.out.now c.loop-operation.out c.push.new.self c.args.operations.now c.loop-operation.operation-index c.operation-item.result
+    c.in_ok-copy.field-0 c.loop-operation-test.true c.loop-operation.invariant c.in_ok-push.ensures.ok (c.in_ok-copy.ensures ∙ c.operation-item.is)

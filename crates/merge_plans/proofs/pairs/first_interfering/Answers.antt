@@ -15,8 +15,12 @@ returns-then-branch c =
     let us = c.args.versions.now in
     let i = c.loop-u.u-index in
     let p : ℕ → Bool = λ u. have_pair c.args.meta.now c.args.operations.now (package_at vs u) in
-    let at : package_at vs (slice_index_or us i 0) ≡ c.as_slice-others.result.now = ap (λ (o : Option Version). option_map_or (λ v. v.«package») o []) c.version.ensures.version ∙ sym c.as_slice-others.ensures in
-    record { first = sym (found_here p us i 0 c.loop-u-test.true c.loop-u.invariant (ap (have_pair c.args.meta.now c.args.operations.now) at ∙ sym c.in_ok-interferes_with.ensures.found ∙ c.if-branch.true)) }
+    let at : package_at vs (slice_index_or us i 0) ≡ c.as_slice-others.result.now =
+    ap (λ (o : Option Version). option_map_or (λ v. v.«package») o []) c.version.ensures.version ∙ sym c.as_slice-others.ensures in
+    record {
+      first = sym (found_here p us i 0 c.loop-u-test.true c.loop-u.invariant
+          (ap (have_pair c.args.meta.now c.args.operations.now) at ∙ sym c.in_ok-interferes_with.ensures.found ∙ c.if-branch.true));
+    }
 
 pub loop-u-preserved : goal.loop-u-preserved
 loop-u-preserved c =
@@ -24,5 +28,7 @@ loop-u-preserved c =
     let us = c.args.versions.now in
     let i = c.loop-u.u-index in
     let p : ℕ → Bool = λ u. have_pair c.args.meta.now c.args.operations.now (package_at vs u) in
-    let at : package_at vs (slice_index_or us i 0) ≡ c.as_slice-others.result.now = ap (λ (o : Option Version). option_map_or (λ v. v.«package») o []) c.version.ensures.version ∙ sym c.as_slice-others.ensures in
-    found_later p us i 0 c.loop-u-test.true c.loop-u.invariant (ap (have_pair c.args.meta.now c.args.operations.now) at ∙ sym c.in_ok-interferes_with.ensures.found ∙ c.if-branch.false)
+    let at : package_at vs (slice_index_or us i 0) ≡ c.as_slice-others.result.now =
+    ap (λ (o : Option Version). option_map_or (λ v. v.«package») o []) c.version.ensures.version ∙ sym c.as_slice-others.ensures in
+    found_later p us i 0 c.loop-u-test.true c.loop-u.invariant
+    (ap (have_pair c.args.meta.now c.args.operations.now) at ∙ sym c.in_ok-interferes_with.ensures.found ∙ c.if-branch.false)

@@ -7,5 +7,6 @@ use Rattle.merge_plans.proofs.plan.numbered.Goals as goal
 pub returns : goal.returns
 returns c = record {
   places = subst (λ (rows : List Bucket). All HaveNumbers rows) (sym c.requires.same)
-      (numbered c.args._meta.now c.args.theirs.now c.args.mine.now (omega (arith, c.len-theirs.ensures, c.len-theirs.type_inv)) (omega (arith, c.len-mine.ensures, c.len-mine.type_inv)));
+      (numbered c.args._meta.now c.args.theirs.now c.args.mine.now (omega (arith, c.len-theirs.ensures, c.len-theirs.type_inv))
+      (omega (arith, c.len-mine.ensures, c.len-mine.type_inv)));
 }

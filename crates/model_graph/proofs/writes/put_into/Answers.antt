@@ -10,9 +10,12 @@ use Rattle.model_graph.proofs.writes.put_into.Goals as goal
 pub returns-clause-ok : goal.returns-clause-ok
 returns-clause-ok c =
     let n : Node = c.find_mut.result.now in
-    on_ok_weaker c.put.result (λ is. (n, c.find_mut.ensures.value, ap (λ x. set c.args.nodes.now c.args.e.now (Some (record n { into = x }))) is)) c.put.ensures.ok
+    on_ok_weaker c.put.result
+    (λ is. (n, c.find_mut.ensures.value, ap (λ x. set c.args.nodes.now c.args.e.now (Some (record n { into = x }))) is)) c.put.ensures.ok
 
 pub returns-clause-err : goal.returns-clause-err
 returns-clause-err c =
     let n : Node = c.find_mut.result.now in
-    on_err_weaker c.put.result (λ is. ap (λ x. set c.args.nodes.now c.args.e.now (Some (record n { into = x }))) is ∙ put_back c.args.nodes.now c.args.e.now n c.find_mut.ensures.value) c.put.ensures.err
+    on_err_weaker c.put.result
+    (λ is. ap (λ x. set c.args.nodes.now c.args.e.now (Some (record n { into = x }))) is
+    ∙ put_back c.args.nodes.now c.args.e.now n c.find_mut.ensures.value) c.put.ensures.err

@@ -9,4 +9,5 @@ returns-then-contains_key c = λ q. entered_before c.args.indexes.now c.args.n c
 
 pub returns : goal.returns
 returns c = λ q.
-    entered_now c.args.indexes.now c.args.n c.args.k q (get nat_cmp c.insert.new.self q) (sym c.contains_key.ensures ∙ c.if-contains_key.false) (c.in_ok-insert.ensures.updates.0 q)
+    entered_now c.args.indexes.now c.args.n c.args.k q (get nat_cmp c.insert.new.self q) (sym c.contains_key.ensures ∙ c.if-contains_key.false)
+    (c.in_ok-insert.ensures.updates.0 q)

@@ -14,4 +14,5 @@ loop-k-preserved c = λ q.
     ∙ sym (first_more q xs k c.loop-k-test.true)
 
 pub returns : goal.returns
-returns c = λ n k is. first_is n c.args.targets.now k (sym (c.loop-k.invariant n ∙ ap (first_place n) (take_all c.loop-k.k c.args.targets.now c.loop-k-test.false)) ∙ is)
+returns c = λ n k is. first_is n c.args.targets.now k
+    (sym (c.loop-k.invariant n ∙ ap (first_place n) (take_all c.loop-k.k c.args.targets.now c.loop-k-test.false)) ∙ is)

@@ -14,10 +14,16 @@ loop-row-preserved g c =
     let pushed : c.push.new.self ≡ c.loop-row.names ++ x ∷ [] = c.in_ok-push.ensures.ok in
     record {
       so_far = λ xs h.
-          subst (λ (ns : List IdBytes). AreNames m rows c.args.ws 1 rows ns) (sym (append_assoc c.loop-row.names (x ∷ []) xs) ∙ ap (λ (ns : List IdBytes). ns ++ xs) (sym pushed))
+          subst (λ (ns : List IdBytes). AreNames m rows c.args.ws 1 rows ns)
+          (sym (append_assoc c.loop-row.names (x ∷ []) xs) ∙ ap (λ (ns : List IdBytes). ns ++ xs) (sym pushed))
           (c.loop-row.invariant.so_far (x ∷ xs)
-          (subst (λ (rest : List DocRow). AreNames m rows c.args.ws c.loop-row.from rest (x ∷ xs)) (sym (next rows i c.row-item.result c.loop-row-test.true c.row-item.is))
-          (c.in_ok-named.named.next, subst (λ (given : List DocRow). IsName m given c.args.ws c.loop-row.from c.row-item.result.id x c.in_ok-named.named.next) c.in_ok-given.ensures c.in_ok-named.ensures, h)));
+          (subst (λ (rest : List DocRow). AreNames m rows c.args.ws c.loop-row.from rest (x ∷ xs))
+          (sym (next rows i c.row-item.result c.loop-row-test.true c.row-item.is)) (
+            c.in_ok-named.named.next,
+            subst (λ (given : List DocRow). IsName m given c.args.ws c.loop-row.from c.row-item.result.id x c.in_ok-named.named.next)
+                c.in_ok-given.ensures c.in_ok-named.ensures,
+            h,
+          )));
       as_many = let e = ap length pushed in let a = length-append c.loop-row.names (x ∷ []) in omega (arith, e, a, c.loop-row.invariant.as_many);
     }
 

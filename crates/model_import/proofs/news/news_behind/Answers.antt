@@ -20,8 +20,11 @@ loop-n-preserved c =
       so_far =
           c.loop-n.invariant.so_far
           ∙ ap (news_from names rows c.loop-n.steps n c.loop-n.roots) (next rows n r c.loop-n-test.true c.index-rows-n.is)
-          ∙ news_on names rows c.loop-n.steps n c.loop-n.roots r (drop (n + 1) rows) c.add_row.new.steps (n + 1) c.add_row.new.roots c.in-Ok.ensures.room c.in-Ok.ensures.roots
-          (c.in-Ok.ensures.steps ∙ ap (λ ss. c.loop-n.steps ++ ss) (same_element c.loop-n.counts names (take n rows) c.loop-n.roots (name_at names n) r.class r.parent c.loop-n.invariant.counts))
+          ∙ news_on names rows c.loop-n.steps n c.loop-n.roots r (drop (n + 1) rows) c.add_row.new.steps
+          (n + 1) c.add_row.new.roots c.in-Ok.ensures.room c.in-Ok.ensures.roots
+          (c.in-Ok.ensures.steps
+          ∙ ap (λ ss. c.loop-n.steps ++ ss)
+          (same_element c.loop-n.counts names (take n rows) c.loop-n.roots (name_at names n) r.class r.parent c.loop-n.invariant.counts))
           (add-one n);
       counts = counts_more c.loop-n.counts c.add_row.new.counts rows n r c.loop-n-test.true c.index-rows-n.is c.loop-n.invariant.counts c.in-Ok.ensures.counts;
     }

@@ -24,6 +24,9 @@ loop-at-preserved g c =
       sound = c.loop-at.invariant.sound;
       good = subst (λ x. Good meta x) (sym done) (undoes meta c.loop-at.invariant.sound m c.loop-at.invariant.good s can).keeps;
       taken = ap (fold meta start) so_far ∙ fold_last meta start m (take i steps) s c.loop-at.invariant.taken can ∙ ap Some (sym done);
-      rest = ap (λ x. fold meta x (drop (i + 1) steps)) done ∙ sym (fold_more meta m s (drop (i + 1) steps) can) ∙ ap (fold meta m) (sym next) ∙ c.loop-at.invariant.rest;
-      stops = ap (λ x. further_on (i + 1) (first_stop meta x (drop (i + 1) steps))) done ∙ sym (further_twice i (first_stop meta (apply meta m s) (drop (i + 1) steps))) ∙ ap (further_on i) (sym (stop_more meta m s (drop (i + 1) steps) can) ∙ ap (first_stop meta m) (sym next)) ∙ c.loop-at.invariant.stops;
+      rest = ap (λ x. fold meta x (drop (i + 1) steps)) done ∙ sym (fold_more meta m s (drop (i + 1) steps) can) ∙ ap (fold meta m) (sym next)
+          ∙ c.loop-at.invariant.rest;
+      stops = ap (λ x. further_on (i + 1) (first_stop meta x (drop (i + 1) steps))) done
+          ∙ sym (further_twice i (first_stop meta (apply meta m s) (drop (i + 1) steps)))
+          ∙ ap (further_on i) (sym (stop_more meta m s (drop (i + 1) steps) can) ∙ ap (first_stop meta m) (sym next)) ∙ c.loop-at.invariant.stops;
     }

@@ -10,6 +10,7 @@ loop-preserved g c =
     let place = (g.L.Look.state c.args.look.now).place in
     let before = c.loop.invariant in
     let there = c.in-Some-placed.ensures.place in
-    let more = go_on place c.args.place.now c.loop.next.now c.in-Some-placed.placed.now.place c.in-Some.container.now c.loop.above before.0 c.in-Some.ensures there before.1 before.2 in
+    let more = go_on place c.args.place.now c.loop.next.now c.in-Some-placed.placed.now.place c.in-Some.container.now c.loop.above before.0
+    c.in-Some.ensures there before.1 before.2 in
     let pushed = c.in_ok-push.ensures.ok ∙ ap (λ a. c.loop.above ++ a ∷ []) c.in_ok-copy.ensures in
     (more.0, more.1, subst (λ l. IsChain place (Some c.args.place.now) (l ++ more.0)) (sym pushed) more.2)

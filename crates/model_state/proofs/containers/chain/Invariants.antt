@@ -6,4 +6,5 @@ use Rattle.model_state.specs.Chains.{IsChain}
 use Rattle.model_state.proofs.containers.chain.Given as goal
 
 abbrev pub invariant-loop : goal.invariant-loop
-invariant-loop g l = (xs : List IdBytes) × IsChain (g.L.Look.state l.look).place (Some l.next) xs × IsChain (g.L.Look.state l.look).place (Some l.place) (l.above ++ xs)
+invariant-loop g l = (xs : List IdBytes) × IsChain (g.L.Look.state l.look).place (Some l.next) xs
+    × IsChain (g.L.Look.state l.look).place (Some l.place) (l.above ++ xs)

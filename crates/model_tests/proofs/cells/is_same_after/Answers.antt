@@ -12,7 +12,11 @@ use Rattle.model_tests.proofs.cells.is_same_after.Goals as goal
 
 both_lead : (meta : Meta) (start m x n k : State) (ss : List Step) (o p : Operation) → fold meta start ss ≡ Some m → fold meta start ss ≡ Some x
     → fold meta m (steps_of o) ≡ Some n → fold meta n (steps_of p) ≡ Some k → (y : State) × (fold_package meta x (o ∷ p ∷ []) ≡ Some y)
-both_lead meta start m x n k ss o p h g one two = (k, subst (λ y. fold_package meta y (o ∷ p ∷ []) ≡ Some k) (same (sym h ∙ g)) (fold_append meta m n (steps_of o) (steps_of p ++ []) one ∙ ap (fold meta n) (append-nil (steps_of p)) ∙ two))
+both_lead meta start m x n k ss o p h g one two = (
+  k,
+  subst (λ y. fold_package meta y (o ∷ p ∷ []) ≡ Some k) (same (sym h ∙ g))
+      (fold_append meta m n (steps_of o) (steps_of p ++ []) one ∙ ap (fold meta n) (append-nil (steps_of p)) ∙ two),
+)
   where
     same : Some m ≡ Some x → m ≡ x
     same e = cc

@@ -7,9 +7,11 @@ use Rattle.edit_laws.specs.Spot.{rank_for, ranks_of}
 use Rattle.edit_laws.proofs.Spots.{end_rank}
 use Rattle.opposites.proofs.entering.free_rank_after.Goals as goal
 
-after_last : (xs : List Entry) (last : Option ℕ) (n : ℕ) (r : Option ℕ) → last ≡ last_rank xs → n ≡ unwrap_or last 0 → r ≡ rank_between n None → r ≡ rank_for (ranks_of xs) (length xs)
+after_last : (xs : List Entry) (last : Option ℕ) (n : ℕ) (r : Option ℕ) → last ≡ last_rank xs → n ≡ unwrap_or last 0 → r ≡ rank_between n None
+    → r ≡ rank_for (ranks_of xs) (length xs)
 after_last xs last n r last_is n_is is = is ∙ ap (λ k. rank_between k None) (n_is ∙ ap (λ o. unwrap_or o 0) last_is) ∙ sym (end_rank xs)
 
 pub returns : goal.returns
 returns g c =
-    after_last (targets (g.L.Look.state c.args.look.now).row c.args.a.now c.args.f) c.last_target.result c.unwrap_or.result c.rank_between.result c.last_target.ensures c.unwrap_or.ensures c.rank_between.ensures.rank
+    after_last (targets (g.L.Look.state c.args.look.now).row c.args.a.now c.args.f) c.last_target.result c.unwrap_or.result c.rank_between.result
+    c.last_target.ensures c.unwrap_or.ensures c.rank_between.ensures.rank

@@ -26,11 +26,14 @@ returns-clause-made g c =
     let there : unwrap_or (rank_there meta m.row o b) 0 ≡ c.in_ok-there.there = ap (λ r. unwrap_or r 0) c.in_ok-there.ensures.rank in
     let here : unwrap_or s.rank 0 ≡ c.in_ok-here.here = ap (λ r. unwrap_or r 0) c.in_ok-here.ensures.rank in
     let step = c.in_ok-link_step.ensures ∙ (λ i. link_step o a f (sym here i) b (sym there i)) in
-    four _ _ _ _ _ (displace meta m.row o f b) (reranks a f xs s.ranks) (reranks_there meta m.row o b) (link_step o a f (unwrap_or s.rank 0) b (unwrap_or (rank_there meta m.row o b) 0) ∷ [])
+    four _ _ _ _ _ (displace meta m.row o f b) (reranks a f xs s.ranks) (reranks_there meta m.row o b)
+    (link_step o a f (unwrap_or s.rank 0) b (unwrap_or (rank_there meta m.row o b) 0) ∷ [])
     c.new-steps.ensures c.in_ok-displace.ensures c.in_ok-here.ensures.steps c.in_ok-there.ensures.steps
     (c.in_ok-push.ensures.ok ∙ ap (λ x. c.enter_there.new.steps ++ x ∷ []) step)
-    ∙ (λ i. displace meta m.row (c.opposite_of-opposite.ensures i) f b ++ (reranks a f xs s.ranks ++ (reranks_there meta m.row (c.opposite_of-opposite.ensures i) b
-    ++ link_step (c.opposite_of-opposite.ensures i) a f (unwrap_or s.rank 0) b (unwrap_or (rank_there meta m.row (c.opposite_of-opposite.ensures i) b) 0) ∷ [])))
+    ∙ (λ i. displace meta m.row (c.opposite_of-opposite.ensures i) f b
+    ++ (reranks a f xs s.ranks ++ (reranks_there meta m.row (c.opposite_of-opposite.ensures i) b
+    ++ link_step (c.opposite_of-opposite.ensures i) a f (unwrap_or s.rank 0) b
+    (unwrap_or (rank_there meta m.row (c.opposite_of-opposite.ensures i) b) 0) ∷ [])))
 
 pub returns-in_err-here-clause-refused : goal.returns-in_err-here-clause-refused
 returns-in_err-here-clause-refused g c =
@@ -43,4 +46,5 @@ returns-in_err-here-clause-refused g c =
     let k = link_index m a f c.args.at in
     let o = opposite_of meta f in
     let left = err_from_is_err_and c.from_residual-in_err-here.result c.from_residual-in_err-here.ensures.1 in
-    rw (left.1, left.2) (here_fault (nat_le k (length xs)) (is_below (row_count m a f) (row_upper meta f)) (room_there meta m o b) (is_some (spot xs k).rank) (is_some (rank_there meta m.row o b)) c.in_err-here.field-0.0 c.in_err-here.ensures.refused)
+    rw (left.1, left.2) (here_fault (nat_le k (length xs)) (is_below (row_count m a f) (row_upper meta f)) (room_there meta m o b)
+    (is_some (spot xs k).rank) (is_some (rank_there meta m.row o b)) c.in_err-here.field-0.0 c.in_err-here.ensures.refused)

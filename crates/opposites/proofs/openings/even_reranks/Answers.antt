@@ -19,11 +19,13 @@ append_nil (x ∷ xs) = ap (λ l. x ∷ l) (append_nil xs)
 
 -- the steps for one entry more
 grown : (a : IdBytes) (f : ℕ) (xs : List Entry) (i : ℕ) (x : Entry) → i < length xs → i ≤ length xs → take (i + 1) xs ≡ take i xs ++ x ∷ []
-    → reranks a f (take (i + 1) xs) (evened 1 (take (i + 1) xs)) ≡ reranks a f (take i xs) (evened 1 (take i xs)) ++ cond (nat_eq x.rank ((i + 1) * rank_gap)) [] (RerankRow a f x.id x.rank ((i + 1) * rank_gap) ∷ [])
+    → reranks a f (take (i + 1) xs) (evened 1 (take (i + 1) xs)) ≡ reranks a f (take i xs) (evened 1 (take i xs))
+    ++ cond (nat_eq x.rank ((i + 1) * rank_gap)) [] (RerankRow a f x.id x.rank ((i + 1) * rank_gap) ∷ [])
 grown a f xs i x lt le more =
     ap (λ ys. reranks a f ys (evened 1 ys)) more
     ∙ reranks_last a f 1 (take i xs) x
-    ∙ ap (λ n. reranks a f (take i xs) (evened 1 (take i xs)) ++ cond (nat_eq x.rank (n * rank_gap)) [] (RerankRow a f x.id x.rank (n * rank_gap) ∷ [])) (ap (λ k. 1 + k) (take_long xs i le) ∙ turned i)
+    ∙ ap (λ n. reranks a f (take i xs) (evened 1 (take i xs))
+    ++ cond (nat_eq x.rank (n * rank_gap)) [] (RerankRow a f x.id x.rank (n * rank_gap) ∷ [])) (ap (λ k. 1 + k) (take_long xs i le) ∙ turned i)
   where
     turned : (k : ℕ) → 1 + k ≡ k + 1
     turned k = omega arith
@@ -48,8 +50,11 @@ loop-i-preserved c =
           w.steps-is ∙ w.in_ok-push.ensures.ok
           ∙ (λ j. c.loop-i.invariant j ++ RerankRow (w.in_ok-copy.ensures j) f (w.in_ok-copy-2.ensures j) x.rank ((i + 1) * rank_gap) ∷ [])
           ∙ append_assoc c.args.steps.now so_far _
-          ∙ ap (λ ss. c.args.steps.now ++ ss) (sym (more ∙ ap (λ b. so_far ++ cond b [] (RerankRow a f x.id x.rank ((i + 1) * rank_gap) ∷ [])) (unequal x.rank _ w.if-x-new.true)))
+          ∙ ap (λ ss. c.args.steps.now ++ ss)
+          (sym (more ∙ ap (λ b. so_far ++ cond b [] (RerankRow a f x.id x.rank ((i + 1) * rank_gap) ∷ [])) (unequal x.rank _ w.if-x-new.true)))
       | else-x-new w ↦
           w.steps-is ∙ c.loop-i.invariant
-          ∙ ap (λ ss. c.args.steps.now ++ ss) (sym (more ∙ ap (λ b. so_far ++ cond b [] (RerankRow a f x.id x.rank ((i + 1) * rank_gap) ∷ [])) (equal x.rank _ w.if-x-new.false) ∙ append_nil so_far))
+          ∙ ap (λ ss. c.args.steps.now ++ ss)
+          (sym (more ∙ ap (λ b. so_far ++ cond b [] (RerankRow a f x.id x.rank ((i + 1) * rank_gap) ∷ [])) (equal x.rank _ w.if-x-new.false)
+          ∙ append_nil so_far))
     ]

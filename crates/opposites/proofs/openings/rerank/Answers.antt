@@ -8,4 +8,6 @@ returns-else-opening c =
     let xs = c.args.opening.now.others in
     nothing_added c.args.steps.now
     ∙ ap (λ ss. c.args.steps.now ++ ss)
-    (sym (ap (reranks c.args.a.now c.args.f xs) (spot_kept xs c.args.opening.now.index (not_not c.args.opening.now.reranks _ c.requires.reranks c.if-opening.false)) ∙ no_reranks c.args.a.now c.args.f xs))
+    (sym (ap (reranks c.args.a.now c.args.f xs)
+    (spot_kept xs c.args.opening.now.index (not_not c.args.opening.now.reranks _ c.requires.reranks c.if-opening.false))
+    ∙ no_reranks c.args.a.now c.args.f xs))

@@ -12,4 +12,5 @@ find-requires g c =
     let b = c.args.b.now in
     let mine : c.in_ok-mine.mine ≡ targets row a f = c.in_ok-mine.ensures in
     let others : c.in_ok-others.others ≡ without_entry b (targets row a f) = c.in_ok-others.ensures ∙ ap (without_entry b) (c.as_slice-2.ensures ∙ mine) in
-    subst (λ n. c.args.at ≤ n) (sym (ap length others)) (stands_among row a f b c.args.at (subst (λ n. c.args.at < n) (c.len.ensures ∙ ap length mine) c.if-index-len.false))
+    subst (λ n. c.args.at ≤ n) (sym (ap length others))
+    (stands_among row a f b c.args.at (subst (λ n. c.args.at < n) (c.len.ensures ∙ ap length mine) c.if-index-len.false))

@@ -19,8 +19,11 @@ returns-clause-made g c =
     let mine = c.as_slice.ensures ∙ c.in_ok-mine.ensures in
     let there : unwrap_or (rank_there meta row o b) 0 ≡ c.in_ok-there.there = ap (λ r. unwrap_or r 0) c.in_ok-there.ensures.rank in
     let step = c.in_ok-link_step.ensures ∙ ap (link_step o a f rank_gap b) (sym there) in
-    four _ _ _ _ _ (unlinks row o a f xs) (displace meta row o f b) (reranks_there meta row o b) (link_step o a f rank_gap b (unwrap_or (rank_there meta row o b) 0) ∷ [])
-    c.new-steps.ensures (c.in_ok-unlinks.ensures ∙ ap (λ l. c.new-steps.result ++ unlinks row o a f l) mine) c.in_ok-displace.ensures c.in_ok-there.ensures.steps
+    four _ _ _ _ _ (unlinks row o a f xs) (displace meta row o f b) (reranks_there meta row o b)
+    (link_step o a f rank_gap b (unwrap_or (rank_there meta row o b) 0) ∷ [])
+    c.new-steps.ensures (c.in_ok-unlinks.ensures ∙ ap (λ l. c.new-steps.result ++ unlinks row o a f l) mine) c.in_ok-displace.ensures
+    c.in_ok-there.ensures.steps
     (c.in_ok-push.ensures.ok ∙ ap (λ x. c.enter_there.new.steps ++ x ∷ []) step)
-    ∙ (λ i. unlinks row (c.opposite_of-opposite.ensures i) a f xs ++ (displace meta row (c.opposite_of-opposite.ensures i) f b ++ (reranks_there meta row (c.opposite_of-opposite.ensures i) b
+    ∙ (λ i. unlinks row (c.opposite_of-opposite.ensures i) a f xs
+    ++ (displace meta row (c.opposite_of-opposite.ensures i) f b ++ (reranks_there meta row (c.opposite_of-opposite.ensures i) b
     ++ link_step (c.opposite_of-opposite.ensures i) a f rank_gap b (unwrap_or (rank_there meta row (c.opposite_of-opposite.ensures i) b) 0) ∷ [])))

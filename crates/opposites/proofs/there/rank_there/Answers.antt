@@ -41,7 +41,8 @@ returns-else-holds_one-clause-steps gh c =
     let b = c.args.b.now in
     let many : holds_one meta c.in-Some.g ≡ false = sym c.holds_one.ensures ∙ c.if-holds_one.false in
     subst (λ ss. OnOk c.enter_last.result (c.enter_last.new.steps ≡ c.args.steps.now ++ ss))
-    (sym (ap (λ o. reranks_there meta row o b) c.in-Some.is ∙ ap (λ xs. reranks b c.in-Some.g xs (end_spot xs).ranks) (others_stay meta row c.in-Some.g b many)))
+    (sym (ap (λ o. reranks_there meta row o b) c.in-Some.is
+    ∙ ap (λ xs. reranks b c.in-Some.g xs (end_spot xs).ranks) (others_stay meta row c.in-Some.g b many)))
     c.enter_last.ensures.steps
 
 pub returns-else-holds_one-clause-rank : goal.returns-else-holds_one-clause-rank

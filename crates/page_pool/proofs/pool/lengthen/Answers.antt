@@ -5,7 +5,8 @@ use Rattle.page_pool.proofs.Steps.{one_more}
 use Rattle.page_pool.proofs.pool.lengthen.Goals as goal
 
 pub push_reserved-requires-in-loop : goal.push_reserved-requires-in-loop
-push_reserved-requires-in-loop c = let s = c.loop.invariant.sound.count in let n = counted c.loop.slots.items in omega (arith, s, n, c.loop.invariant.size, c.loop.invariant.free_capacity)
+push_reserved-requires-in-loop c = let s = c.loop.invariant.sound.count in let n = counted c.loop.slots.items
+    in omega (arith, s, n, c.loop.invariant.size, c.loop.invariant.free_capacity)
 
 pub loop-preserved : goal.loop-preserved
 loop-preserved c =
@@ -17,7 +18,10 @@ loop-preserved c =
     let number : c.len-number.result ≡ length c.loop.slots.items = omega arith in
     let added = ap (λ (l : Frames). free_of l) is ∙ more.2 in
     record {
-      sound = one_more c.loop.slots.items c.push_reserved.new.self.items c.loop.free.items c.push_reserved-in-loop.new.self.items c.len-number.result (vec_capacity c.loop.free) (vec_capacity c.push_reserved-in-loop.new.self) i.sound is c.push_reserved-in-loop.ensures.items number c.push_reserved-in-loop.ensures.capacity few room;
+      sound = one_more c.loop.slots.items c.push_reserved.new.self.items c.loop.free.items c.push_reserved-in-loop.new.self.items c.len-number.result
+          (vec_capacity c.loop.free)
+          (vec_capacity c.push_reserved-in-loop.new.self) i.sound is c.push_reserved-in-loop.ensures.items number
+          c.push_reserved-in-loop.ensures.capacity few room;
       size = omega (arith, i.size);
       capacity = c.push_reserved.ensures.capacity ∙ i.capacity;
       free_capacity = c.push_reserved-in-loop.ensures.capacity ∙ i.free_capacity;

@@ -1,5 +1,7 @@
 -- By what each event changes.
-use Rattle.plain_repository.proofs.Effects.{inits_begin, edits_lead, checkouts_show_versions, begins_keep_models, ends_keep_models, ends_are_undone, discards_go_back, drops_take_away, commits_keep_states, branches_keep_models, branches_start_at_bases, tags_name_versions}
+use Rattle.plain_repository.proofs.Effects.{inits_begin, edits_lead, checkouts_show_versions, begins_keep_models, ends_keep_models, ends_are_undone}
+use Rattle.plain_repository.proofs.Effects.{discards_go_back, drops_take_away, commits_keep_states, branches_keep_models, branches_start_at_bases}
+use Rattle.plain_repository.proofs.Effects.{tags_name_versions}
 use Rattle.plain_repository.proofs.laws.law_of_effects.Goals as goal
 
 pub returns-clause-checkouts : goal.returns-clause-checkouts

@@ -14,7 +14,8 @@ returns-clause-ranked c =
     let old = place_some items c.args.e.now c.args.at c.requires.at in
     let id = ap (λ (x : Entry). x.id) (c.index_mut.ensures.value ∙ index_is items c.args.at c.index_mut.result.now old.0 old.1) ∙ old.2 in
     (moved_in items c.args.e.now c.requires.ranked c.args.at c.requires.at c.sort_unstable.new.self.items c.args.rank
-    (subst (λ (z : IdBytes). IsPermutation (slice_set items c.args.at (entry_with z c.args.rank)) c.sort_unstable.new.self.items) id c.sort_unstable.ensures.permutation) c.sort_unstable.ensures.sorted).0
+    (subst (λ (z : IdBytes). IsPermutation (slice_set items c.args.at (entry_with z c.args.rank)) c.sort_unstable.new.self.items) id
+    c.sort_unstable.ensures.permutation) c.sort_unstable.ensures.sorted).0
 
 pub returns-clause-ranks : goal.returns-clause-ranks
 returns-clause-ranks c =
@@ -22,4 +23,5 @@ returns-clause-ranks c =
     let old = place_some items c.args.e.now c.args.at c.requires.at in
     let id = ap (λ (x : Entry). x.id) (c.index_mut.ensures.value ∙ index_is items c.args.at c.index_mut.result.now old.0 old.1) ∙ old.2 in
     (moved_in items c.args.e.now c.requires.ranked c.args.at c.requires.at c.sort_unstable.new.self.items c.args.rank
-    (subst (λ (z : IdBytes). IsPermutation (slice_set items c.args.at (entry_with z c.args.rank)) c.sort_unstable.new.self.items) id c.sort_unstable.ensures.permutation) c.sort_unstable.ensures.sorted).1
+    (subst (λ (z : IdBytes). IsPermutation (slice_set items c.args.at (entry_with z c.args.rank)) c.sort_unstable.new.self.items) id
+    c.sort_unstable.ensures.permutation) c.sort_unstable.ensures.sorted).1

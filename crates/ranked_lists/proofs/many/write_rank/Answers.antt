@@ -24,7 +24,8 @@ returns-in-Some c = λ m table some.
     let entry = table_entry (named old.entries) m table e here is in
     let wrote = (c.get_mut.follows.holds value).3 (subst (λ o. IsSome o) c.in-Some.ensures.value refl) in
     table_set (named old.entries) (named (c.get_mut.follows.lender value).entries) m e (Some c.args.rank) table
-    (λ q. updates-text old (c.get_mut.follows.lender value) e c.as_str.result.now c.as_str.ensures.bytes (Some value) wrote q ∙ ap (λ z. cond (text_eq e q) (Some (entry_with z c.args.rank)) (lookup (text_eq q) (named old.entries))) (ap (λ (y : Entry). y.id) entry.0))
+    (λ q. updates-text old (c.get_mut.follows.lender value) e c.as_str.result.now c.as_str.ensures.bytes (Some value) wrote q
+    ∙ ap (λ z. cond (text_eq e q) (Some (entry_with z c.args.rank)) (lookup (text_eq q) (named old.entries))) (ap (λ (y : Entry). y.id) entry.0))
 
 pub returns-in_default : goal.returns-in_default
 returns-in_default c = λ m table some.

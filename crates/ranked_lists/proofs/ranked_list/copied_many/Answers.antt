@@ -8,4 +8,5 @@ many_of-requires c = (listed_is c.as_slice.result.now c.args.many.now (c.as_slic
 
 pub returns : goal.returns
 returns c =
-    subst (λ m. IfOk c.many_of.result (λ r. r ≡ m)) (listed_is c.as_slice.result.now c.args.many.now (c.as_slice.ensures ∙ c.in_ok-entries.ensures)).1 c.many_of.ensures
+    subst (λ m. IfOk c.many_of.result (λ r. r ≡ m))
+    (listed_is c.as_slice.result.now c.args.many.now (c.as_slice.ensures ∙ c.in_ok-entries.ensures)).1 c.many_of.ensures

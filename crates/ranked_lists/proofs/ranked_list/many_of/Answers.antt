@@ -18,4 +18,5 @@ loop-entry-preserved c =
 
 pub returns : goal.returns
 returns c =
-    c.loop-entry.invariant ∙ ap put_all (take_all c.loop-entry.entry-index c.args.entries.now c.loop-entry-test.false) ∙ put_all_is c.args.entries.now c.requires
+    c.loop-entry.invariant ∙ ap put_all (take_all c.loop-entry.entry-index c.args.entries.now c.loop-entry-test.false)
+    ∙ put_all_is c.args.entries.now c.requires

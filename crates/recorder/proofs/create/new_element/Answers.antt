@@ -11,5 +11,6 @@ returns-in_err-e g c =
     let m = g.L.Look.state c.args.look.now in
     let id = id_or_fresh m c.args.ws c.args.id.now in
     let fault = c.in_err-e.field-0.0 in
-    let due : (fault ≡ Memory) ⊎ (new_effect m c.args.class c.args.place id ≡ Err fault) = new_refused m c.args.class c.args.place id fault c.in_err-e.ensures in
+    let due : (fault ≡ Memory) ⊎ (new_effect m c.args.class c.args.place id ≡ Err fault) =
+    new_refused m c.args.class c.args.place id fault c.in_err-e.ensures in
     search rules

@@ -18,12 +18,17 @@ on_ok (Err e) P Q h p = p
 
 pub returns-clause-made : goal.returns-clause-made
 returns-clause-made g c =
-    if_ok c.move_steps.result _ _ (move_is c.args.meta.now (g.L.Look.state c.args.look.now) c.requires.good c.args.e.now c.args.place.now c.args.index) c.move_steps.ensures.made
+    if_ok c.move_steps.result _ _
+    (move_is c.args.meta.now (g.L.Look.state c.args.look.now) c.requires.good c.args.e.now c.args.place.now c.args.index) c.move_steps.ensures.made
 
 pub returns-clause-taken : goal.returns-clause-taken
 returns-clause-taken g c =
-    on_ok c.move_steps.result _ _ (refusal_is c.args.meta.now (g.L.Look.state c.args.look.now) c.requires.good c.args.e.now c.args.place.now c.args.index None) c.move_steps.ensures.taken
+    on_ok c.move_steps.result _ _
+    (refusal_is c.args.meta.now (g.L.Look.state c.args.look.now) c.requires.good c.args.e.now c.args.place.now c.args.index None)
+    c.move_steps.ensures.taken
 
 pub returns-clause-refused : goal.returns-clause-refused
 returns-clause-refused g c =
-    if_err c.move_steps.result _ _ (fault_is c.args.meta.now (g.L.Look.state c.args.look.now) c.requires.good c.args.e.now c.args.place.now c.args.index) c.move_steps.ensures.refused
+    if_err c.move_steps.result _ _
+    (fault_is c.args.meta.now (g.L.Look.state c.args.look.now) c.requires.good c.args.e.now c.args.place.now c.args.index)
+    c.move_steps.ensures.refused

@@ -5,7 +5,8 @@ use Rattle.repo_core.proofs.deciding.decide_command.Goals as goal
 use Rattle.model_state.specs.State as models
 
 pub decide_over-decision-requires-clause-model : goal.decide_over-decision-requires-clause-model
-decide_over-decision-requires-clause-model c = subst (λ (s : State). IsWorkingModel s c.in-Some.ws c.in_ok-model.model) (sym c.take_model.ensures.same) c.in_ok-model.ensures.model
+decide_over-decision-requires-clause-model c =
+    subst (λ (s : State). IsWorkingModel s c.in-Some.ws c.in_ok-model.model) (sym c.take_model.ensures.same) c.in_ok-model.ensures.model
 
 pub keep_model-requires-clause-model : goal.keep_model-requires-clause-model
 keep_model-requires-clause-model c =

@@ -23,5 +23,6 @@ returns-clause-decision c =
     let s = c.args.repo.now in
     let block = c.args.block.now in
     subst (λ (d : Decision). IfOk c.decide_on.result (λ r. seen r ≡ d))
-    (ap (decide_command s block) c.in_ok-name_creation.ensures.named ∙ decided_alike s block c.args.command.now c.args.ws c.args.model.now c.requires.needs c.requires.model)
+    (ap (decide_command s block) c.in_ok-name_creation.ensures.named
+    ∙ decided_alike s block c.args.command.now c.args.ws c.args.model.now c.requires.needs c.requires.model)
     c.decide_on.ensures.decision

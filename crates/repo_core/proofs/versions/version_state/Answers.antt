@@ -23,10 +23,16 @@ state_at-requires-clause-spelled c =
     (version_spelled c.args.repo.now c.args.begun.now.meta c.orderly.ensures c.requires.meta c.args.v c.requires.there)
 
 pub state_at-requires-clause-forms : goal.state_at-requires-clause-forms
-state_at-requires-clause-forms c = forms_begun c.args.repo.now c.args.begun.now.meta c.args.begun.now.history.history (stands c.args.pool.now c.args.cache.now) c.requires.meta c.requires.history c.requires.forms
+state_at-requires-clause-forms c =
+    forms_begun c.args.repo.now c.args.begun.now.meta c.args.begun.now.history.history
+    (stands c.args.pool.now c.args.cache.now) c.requires.meta c.requires.history c.requires.forms
 
 pub returns-clause-forms : goal.returns-clause-forms
-returns-clause-forms c = forms_back c.args.repo.now c.args.begun.now.meta c.args.begun.now.history.history (stands c.state_at.new.pool c.state_at.new.cache) c.requires.meta c.requires.history c.state_at.ensures.forms
+returns-clause-forms c =
+    forms_back c.args.repo.now c.args.begun.now.meta c.args.begun.now.history.history
+    (stands c.state_at.new.pool c.state_at.new.cache) c.requires.meta c.requires.history c.state_at.ensures.forms
 
 pub returns-clause-first : goal.returns-clause-first
-returns-clause-first c = subst (λ (h : History). OnOk c.state_at.result (LeavesFirst c.args.begun.now.meta h c.args.v c.state_at.new.cache)) (sym c.requires.history) c.state_at.ensures.first
+returns-clause-first c =
+    subst (λ (h : History). OnOk c.state_at.result (LeavesFirst c.args.begun.now.meta h c.args.v c.state_at.new.cache))
+    (sym c.requires.history) c.state_at.ensures.first

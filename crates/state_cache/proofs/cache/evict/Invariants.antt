@@ -6,7 +6,8 @@ use Rattle.state_cache.proofs.cache.evict.Given as goal
 
 abbrev pub invariant-loop-limits : goal.invariant-loop-limits
 invariant-loop-limits l = record {
-  popping : Popping l.fn.pool l.pool l.fn.entries.entries l.entries.entries l.count (Fits l.limits.entries l.limits.frames (out_of l.fn.pool - l.held_frames) l.limits.needed);
+  popping : Popping l.fn.pool l.pool l.fn.entries.entries l.entries.entries l.count
+      (Fits l.limits.entries l.limits.frames (out_of l.fn.pool - l.held_frames) l.limits.needed);
   cap : l.entries.cap ≡ l.fn.entries.cap;
 }
 

@@ -13,7 +13,8 @@ use Rattle.step_apply.proofs.groups.clear_of.Goals as goal
 pub returns-then-is_empty_of : goal.returns-then-is_empty_of
 returns-then-is_empty_of c = λ g.
     let old = c.args.fan.now in
-    elim (is_at (nat_cmp c.args.f) g) as (λ b. is_at (nat_cmp c.args.f) g ≡ b → group_of (tree.get nat_cmp c.remove.new.self g) ≡ group_of (tree.get nat_cmp old g)) [
+    elim (is_at (nat_cmp c.args.f) g) as (λ b. is_at (nat_cmp c.args.f) g ≡ b
+    → group_of (tree.get nat_cmp c.remove.new.self g) ≡ group_of (tree.get nat_cmp old g)) [
       | true ↦ λ at.
           ap group_of (c.remove.ensures.updates.0 g ∙ ap (λ b. cond b None (tree.get nat_cmp old g)) at)
           ∙ sym (same id_order (group_of (tree.get nat_cmp old g)) empty (λ q.

@@ -10,4 +10,5 @@ pub returns-in-None : goal.returns-in-None
 returns-in-None c = λ _ b. ap (λ o. get (group_of o) b) (sym c.in-None.ensures.value) ∙ get-empty id_cmp b
 
 pub returns-in-Some : goal.returns-in-Some
-returns-in-Some c = λ yes b. ap (λ o. get (group_of o) b) (sym c.in-Some.ensures.value) ∙ bare_none id_order c.in-Some.group.now (sym c.is_empty.ensures ∙ yes) b
+returns-in-Some c = λ yes b. ap (λ o. get (group_of o) b) (sym c.in-Some.ensures.value)
+    ∙ bare_none id_order c.in-Some.group.now (sym c.is_empty.ensures ∙ yes) b

@@ -12,5 +12,6 @@ returns-in-Some-clause-there c = λ b g apart.
 
 pub returns-in_ok-insert-in-None-clause-there : goal.returns-in_ok-insert-in-None-clause-there
 returns-in_ok-insert-in-None-clause-there c = λ b g apart.
-    ap (λ o. fan_of o g) (c.in_ok-insert-in-None.ensures.updates.2 b (not_at c.in_ok-key.key b (subst (λ x. text_eq x b ≡ false) (sym c.in_ok-key.ensures) apart)))
+    ap (λ o. fan_of o g) (c.in_ok-insert-in-None.ensures.updates.2 b
+    (not_at c.in_ok-key.key b (subst (λ x. text_eq x b ≡ false) (sym c.in_ok-key.ensures) apart)))
     ∙ ap (λ t. members_of t b g) c.get_mut.follows.holds-at-none

@@ -17,4 +17,6 @@ returns-in-Some-clause-there c = λ b g apart.
 pub returns-in_default-clause-here : goal.returns-in_default-clause-here
 returns-in_default-clause-here c =
     ap (λ t. members_of t c.args.a.now c.args.f) c.get_mut.follows.holds-at-none
-    ∙ sym (set_here id_order _ c.args.e.now None (ap (λ o. get (fan_of o c.args.f) c.args.e.now) (sym (sym (ap option_copied_mut c.in_default.is) ∙ c.get_mut.ensures.value)) ∙ get-empty id_cmp c.args.e.now))
+    ∙ sym (set_here id_order _ c.args.e.now None
+    (ap (λ o. get (fan_of o c.args.f) c.args.e.now) (sym (sym (ap option_copied_mut c.in_default.is) ∙ c.get_mut.ensures.value))
+    ∙ get-empty id_cmp c.args.e.now))

@@ -19,4 +19,6 @@ returns-in-Some-clause-here c =
 pub returns-in_default-clause-here : goal.returns-in_default-clause-here
 returns-in_default-clause-here c =
     ap (λ t. group_of (tree.get nat_cmp t c.args.f)) c.get_mut.follows.holds-at-none
-    ∙ sym (set_here id_order _ c.args.e.now None (ap (λ o. get (group_of o) c.args.e.now) (sym (sym (ap option_copied_mut c.in_default.is) ∙ c.get_mut.ensures.value)) ∙ get-empty id_cmp c.args.e.now))
+    ∙ sym (set_here id_order _ c.args.e.now None
+    (ap (λ o. get (group_of o) c.args.e.now) (sym (sym (ap option_copied_mut c.in_default.is) ∙ c.get_mut.ensures.value))
+    ∙ get-empty id_cmp c.args.e.now))

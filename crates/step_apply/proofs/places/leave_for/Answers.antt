@@ -9,7 +9,8 @@ use Rattle.step_apply.proofs.places.leave_for.Goals as goal
 
 pub returns-then-not-is_same-clause-there : goal.returns-then-not-is_same-clause-there
 returns-then-not-is_same-clause-there c = λ was.
-    out_of (standing c.drop_at.new.self) (standing c.args.groups.now) c.args.e.now c.in-Some.old c.args.to.now (λ p else. was p else ∙ ap (stood p) c.in-Some.is)
+    out_of (standing c.drop_at.new.self) (standing c.args.groups.now) c.args.e.now c.in-Some.old c.args.to.now
+    (λ p else. was p else ∙ ap (stood p) c.in-Some.is)
     c.drop_at.ensures.here c.drop_at.ensures.there
 
 pub returns-in-Some-clause-there : goal.returns-in-Some-clause-there

@@ -34,7 +34,9 @@ returns-clause-grouped c = λ is.
     (c.leave_for.ensures.here ∙ c.in_ok-list_at.ensures.here ∙ ap (λ z. set (standing groups to) z (Some c.args.placed.rank)) same_id))
     (λ p else.
     let else' = subst (λ z. place_eq z p ≡ false) (sym same_place) else in
-    c.leave_for.ensures.there (λ q apart. ap (λ m. get m own) (c.in_ok-list_at.ensures.there q apart) ∙ ap (get (standing groups q)) same_id ∙ is q c.args.e ∙ ap (stood q) (sym c.in-Ok.ensures.old)) p else'
+    c.leave_for.ensures.there
+    (λ q apart. ap (λ m. get m own) (c.in_ok-list_at.ensures.there q apart) ∙ ap (get (standing groups q)) same_id ∙ is q c.args.e
+    ∙ ap (stood q) (sym c.in-Ok.ensures.old)) p else'
     ∙ (λ i. set (c.in_ok-list_at.ensures.there p else' i) (same_id i) None)))
 
 pub returns-clause-place : goal.returns-clause-place

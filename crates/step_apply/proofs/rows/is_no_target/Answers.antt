@@ -10,4 +10,5 @@ pub returns-in-None : goal.returns-in-None
 returns-in-None c = λ _ k. ap (λ o. get (rows_of o) k) (sym c.in-None.ensures.value) ∙ get-empty row_cmp k
 
 pub returns-in-Some : goal.returns-in-Some
-returns-in-Some c = λ yes k. ap (λ o. get (rows_of o) k) (sym c.in-Some.ensures.value) ∙ no_row c.in-Some.rows.now (sym c.len.ensures.len ∙ nat_equality.exact c.len.result 0 yes) k
+returns-in-Some c = λ yes k. ap (λ o. get (rows_of o) k) (sym c.in-Some.ensures.value)
+    ∙ no_row c.in-Some.rows.now (sym c.len.ensures.len ∙ nat_equality.exact c.len.result 0 yes) k

@@ -13,23 +13,27 @@ use Rattle.step_apply.proofs.rows.put_row.Goals as goal
 
 pub returns-in-Ok-insert-clause-out : goal.returns-in-Ok-insert-clause-out
 returns-in-Ok-insert-clause-out c = λ is.
-    routed c.args.tree.now c.insert.new.self c.args.out.now c.depart.new.out c.args.key (Some c.args.rank) is c.in-Ok-insert.ensures.updates.0 c.in-Ok.ensures.here c.in-Ok.ensures.same_element c.in-Ok.ensures.there
+    routed c.args.tree.now c.insert.new.self c.args.out.now c.depart.new.out c.args.key
+    (Some c.args.rank) is c.in-Ok-insert.ensures.updates.0 c.in-Ok.ensures.here c.in-Ok.ensures.same_element c.in-Ok.ensures.there
 
 pub returns-in-Ok-insert-clause-into : goal.returns-in-Ok-insert-clause-into
 returns-in-Ok-insert-clause-into c = λ is.
-    arrived c.args.tree.now c.insert.new.self c.args.into.now c.arrive.new.into c.args.key (Some c.args.rank) is c.in-Ok-insert.ensures.updates.0 c.in_ok-arrive.ensures.here c.in_ok-arrive.ensures.there
+    arrived c.args.tree.now c.insert.new.self c.args.into.now c.arrive.new.into c.args.key
+    (Some c.args.rank) is c.in-Ok-insert.ensures.updates.0 c.in_ok-arrive.ensures.here c.in_ok-arrive.ensures.there
 
 pub returns-in-Ok-insert-clause-ok : goal.returns-in-Ok-insert-clause-ok
 returns-in-Ok-insert-clause-ok c = table_updates row_order c.args.tree.now c.insert.new.self c.args.key (Some c.args.rank) c.in-Ok-insert.ensures.updates.0
 
 -- where the source takes no row more, the target gets back what it had
 pub returns-in-Err-clause-out : goal.returns-in-Err-clause-out
-returns-in-Err-clause-out c = λ is. out_kept c.args.tree.now c.args.out.now c.depart.new.out c.args.key is c.in-Err.ensures.err c.in-Err.ensures.same_element c.in-Err.ensures.there
+returns-in-Err-clause-out c =
+    λ is. out_kept c.args.tree.now c.args.out.now c.depart.new.out c.args.key is c.in-Err.ensures.err c.in-Err.ensures.same_element c.in-Err.ensures.there
 
 pub returns-in-Err-clause-into : goal.returns-in-Err-clause-into
 returns-in-Err-clause-into c = λ is.
     into_undone c.args.tree.now c.args.tree.now c.args.into.now c.arrive.new.into c.rewrite_to.new.into c.args.key c.args.rank c.copied-old.result is refl
-    (sym (c.copied-old.ensures ∙ c.get.ensures.value)) c.in_ok-arrive.ensures.here c.in_ok-arrive.ensures.there c.rewrite_to.ensures.here c.rewrite_to.ensures.there
+    (sym (c.copied-old.ensures ∙ c.get.ensures.value)) c.in_ok-arrive.ensures.here c.in_ok-arrive.ensures.there c.rewrite_to.ensures.here
+    c.rewrite_to.ensures.there
 
 -- where the tree takes no row more, both ends give it back
 pub returns-in-Err-insert-clause-out : goal.returns-in-Err-insert-clause-out

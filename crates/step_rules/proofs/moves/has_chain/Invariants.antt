@@ -5,4 +5,5 @@ use Rattle.model_state.specs.Steps.{chain_is}
 use Rattle.step_rules.proofs.moves.has_chain.Given as goal
 
 abbrev pub invariant-loop-id : goal.invariant-loop-id
-invariant-loop-id g l = chain_is (g.S.Look.state l.model).place (Some l.next) (drop l.id-index l.ids) ≡ chain_is (g.S.Look.state l.model).place (Some l.place) l.ids
+invariant-loop-id g l =
+    chain_is (g.S.Look.state l.model).place (Some l.next) (drop l.id-index l.ids) ≡ chain_is (g.S.Look.state l.model).place (Some l.place) l.ids

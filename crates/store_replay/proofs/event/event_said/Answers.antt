@@ -19,4 +19,5 @@ said_over-requires-clause-played c = (
 
 pub returns : goal.returns
 returns c = of_ok c.said_over.result _ _
-    (λ said gives was. said_again c.args.repo.now c.args.played.now c.in_ok-event.event said.bytes.items said.printable c.in_ok-event.ensures gives was) c.said_over.ensures
+    (λ said gives was. said_again c.args.repo.now c.args.played.now c.in_ok-event.event said.bytes.items said.printable c.in_ok-event.ensures gives
+    was) c.said_over.ensures

@@ -21,7 +21,8 @@ returns-in-Err-TooLong c =
 
 pub returns-in-Err-NotPrintable : goal.returns-in-Err-NotPrintable
 returns-in-Err-NotPrintable c =
-    let lines = not_memory c.in-Err-NotPrintable.field-0 NotPrintable (lines_again (history_of c.history.result) c.args.event.now) c.in-Err-NotPrintable.field-0-is
+    let lines = not_memory c.in-Err-NotPrintable.field-0 NotPrintable
+    (lines_again (history_of c.history.result) c.args.event.now) c.in-Err-NotPrintable.field-0-is
     (λ e. absurd cc) c.in-Err-NotPrintable.ensures.fault in
     of_both c.refused-in-Err-NotPrintable.result _ _ _
     (λ said line none s made.

@@ -67,4 +67,5 @@ events-preserved g c =
     goes_on (g.H.Host.told c.args.host.now) a b c.events.opening c.events.invariant c.next_event.ensures.course c.next_event.ensures.disk
     c.next_event.ensures.said c.next_event.ensures.input c.next_event.new.self _ plays (g.H.Host.told c.say.new.self) c.deref.result.now
     (c.deref.ensures.value ∙ printed.0) c.say.ensures.course c.say.ensures.disk c.say.ensures.input c.say.ensures.part
-    (went_well _ c.say.result (sym c.is_err.ensures.value ∙ c.if-is_err.false) c.say.ensures.whole) c.in-Ok-Some.ensures.at (sym printed.1 ∙ c.if-not-said.false)
+    (went_well _ c.say.result (sym c.is_err.ensures.value ∙ c.if-is_err.false) c.say.ensures.whole) c.in-Ok-Some.ensures.at
+    (sym printed.1 ∙ c.if-not-said.false)

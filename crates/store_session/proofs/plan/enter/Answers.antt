@@ -45,20 +45,26 @@ returns-in-Ok-clause-added g c = λ told state event at' is made holds.
     let of = some_ready c.args.pool.now state event c.args.ready c.in-Some.prepared c.in-Some.is is in
     let same : state.end + 5 + length (event_encoding of.made) ≡ c.args.journal.now.end + 5 + length (event_encoding of.made) = omega (arith, at') in
     rw of.event_is (event_added (g.H.Host.told c.args.host.now) (g.H.Host.told c.append.new.host) state made of.made of.playable holds
-    (disk_now (g.H.Host.told c.append.new.host)) (play state of.made) c.append.new.self.end (event_encoding of.made) refl refl (play_end state of.made ∙ same ∙ sym (ap end_of (c.in-Ok.ensures.ok (event_encoding of.made) of.holds)))
-    (c.in-Ok.ensures.added told (event_encoding of.made) of.holds (map event_encoding made) (subst (λ (n : ℕ). IsAtRest (disk_now (g.H.Host.told c.args.host.now)) (map event_encoding made) n) at' holds.rests.journal)))
+    (disk_now (g.H.Host.told c.append.new.host)) (play state of.made) c.append.new.self.end (event_encoding of.made) refl refl
+    (play_end state of.made ∙ same ∙ sym (ap end_of (c.in-Ok.ensures.ok (event_encoding of.made) of.holds)))
+    (c.in-Ok.ensures.added told (event_encoding of.made) of.holds (map event_encoding made)
+    (subst (λ (n : ℕ). IsAtRest (disk_now (g.H.Host.told c.args.host.now)) (map event_encoding made) n) at' holds.rests.journal)))
 
 pub returns-in-Ok-clause-entering : goal.returns-in-Ok-clause-entering
 returns-in-Ok-clause-entering g c = λ state event at' is made holds.
     let of = some_ready c.args.pool.now state event c.args.ready c.in-Some.prepared c.in-Some.is is in
     rw of.event_is (event_entering (g.H.Host.told c.args.host.now) (g.H.Host.told c.append.new.host) state made of.made of.playable holds
-    (event_encoding of.made) refl (c.append.ensures.any_moment (event_encoding of.made) of.holds (map event_encoding made) (subst (λ (n : ℕ). IsAtRest (disk_now (g.H.Host.told c.args.host.now)) (map event_encoding made) n) at' holds.rests.journal)))
+    (event_encoding of.made) refl
+    (c.append.ensures.any_moment (event_encoding of.made) of.holds (map event_encoding made)
+    (subst (λ (n : ℕ). IsAtRest (disk_now (g.H.Host.told c.args.host.now)) (map event_encoding made) n) at' holds.rests.journal)))
 
 pub returns-in-Err-clause-entering : goal.returns-in-Err-clause-entering
 returns-in-Err-clause-entering g c = λ state event at' is made holds.
     let of = some_ready c.args.pool.now state event c.args.ready c.in-Some.prepared c.in-Some.is is in
     rw of.event_is (event_entering (g.H.Host.told c.args.host.now) (g.H.Host.told c.append.new.host) state made of.made of.playable holds
-    (event_encoding of.made) refl (c.append.ensures.any_moment (event_encoding of.made) of.holds (map event_encoding made) (subst (λ (n : ℕ). IsAtRest (disk_now (g.H.Host.told c.args.host.now)) (map event_encoding made) n) at' holds.rests.journal)))
+    (event_encoding of.made) refl
+    (c.append.ensures.any_moment (event_encoding of.made) of.holds (map event_encoding made)
+    (subst (λ (n : ℕ). IsAtRest (disk_now (g.H.Host.told c.args.host.now)) (map event_encoding made) n) at' holds.rests.journal)))
 
 pub returns-in_default-clause-still : goal.returns-in_default-clause-still
 returns-in_default-clause-still g c = λ none. still_disk (g.H.Host.told c.args.host.now)
@@ -74,16 +80,24 @@ returns-in_default-clause-all g c = both_none c.args.pool.now c.args._cache.now 
 
 pub returns-in-Ok-clause-all : goal.returns-in-Ok-clause-all
 returns-in-Ok-clause-all g c =
-    given_all c.args.pool.now c.append.new.pool c.args._cache.now c.in-Some.prepared (both_some c.args.pool.now c.args._cache.now c.args.ready c.in-Some.prepared c.in-Some.is c.requires.held) c.append.ensures.free c.append.ensures.others c.append.ensures.out
+    given_all c.args.pool.now c.append.new.pool c.args._cache.now c.in-Some.prepared
+    (both_some c.args.pool.now c.args._cache.now c.args.ready c.in-Some.prepared c.in-Some.is c.requires.held) c.append.ensures.free
+    c.append.ensures.others c.append.ensures.out
 
 pub returns-in-Err-clause-all : goal.returns-in-Err-clause-all
 returns-in-Err-clause-all g c =
-    given_all c.args.pool.now c.append.new.pool c.args._cache.now c.in-Some.prepared (both_some c.args.pool.now c.args._cache.now c.args.ready c.in-Some.prepared c.in-Some.is c.requires.held) c.append.ensures.free c.append.ensures.others c.append.ensures.out
+    given_all c.args.pool.now c.append.new.pool c.args._cache.now c.in-Some.prepared
+    (both_some c.args.pool.now c.args._cache.now c.args.ready c.in-Some.prepared c.in-Some.is c.requires.held) c.append.ensures.free
+    c.append.ensures.others c.append.ensures.out
 
 pub returns-in-Ok-clause-stands : goal.returns-in-Ok-clause-stands
 returns-in-Ok-clause-stands g c =
-    given_same c.args.pool.now c.append.new.pool c.args._cache.now c.in-Some.prepared (both_some c.args.pool.now c.args._cache.now c.args.ready c.in-Some.prepared c.in-Some.is c.requires.held) c.append.ensures.free c.append.ensures.others c.append.ensures.out
+    given_same c.args.pool.now c.append.new.pool c.args._cache.now c.in-Some.prepared
+    (both_some c.args.pool.now c.args._cache.now c.args.ready c.in-Some.prepared c.in-Some.is c.requires.held) c.append.ensures.free
+    c.append.ensures.others c.append.ensures.out
 
 pub returns-in-Err-clause-stands : goal.returns-in-Err-clause-stands
 returns-in-Err-clause-stands g c =
-    given_same c.args.pool.now c.append.new.pool c.args._cache.now c.in-Some.prepared (both_some c.args.pool.now c.args._cache.now c.args.ready c.in-Some.prepared c.in-Some.is c.requires.held) c.append.ensures.free c.append.ensures.others c.append.ensures.out
+    given_same c.args.pool.now c.append.new.pool c.args._cache.now c.in-Some.prepared
+    (both_some c.args.pool.now c.args._cache.now c.args.ready c.in-Some.prepared c.in-Some.is c.requires.held) c.append.ensures.free
+    c.append.ensures.others c.append.ensures.out

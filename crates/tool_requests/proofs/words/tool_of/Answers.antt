@@ -4,7 +4,8 @@ use Rattle.std.proofs.lemmas.Bool.{ltb-true, ltb-false}
 use Rattle.std.proofs.lemmas.List.{length-map}
 use Rattle.tool_requests.proofs.Other.{other_words}
 use Rattle.tool_requests.proofs.words.tool_of.Goals as goal
-use Rattle.tool_requests.proofs.words.tool_of.Goals.{in_default-via-then-words-lt3, in_default-via-else-words-lt3+else-words-lt4+then-words-lt5, in_default-via-else-words-lt3+else-words-lt4+else-words-lt5+else-words-lt6}
+use Rattle.tool_requests.proofs.words.tool_of.Goals.{in_default-via-then-words-lt3, in_default-via-else-words-lt3+else-words-lt4+then-words-lt5}
+use Rattle.tool_requests.proofs.words.tool_of.Goals.{in_default-via-else-words-lt3+else-words-lt4+else-words-lt5+else-words-lt6}
 
 pub returns-in_default : goal.returns-in_default
 returns-in_default c =

@@ -18,4 +18,5 @@ returns-in-Ok-clause-done g c = λ state made holds.
     let same : telling c.as_slice.result.now c.is_refusal.result ≡ replying reply =
     ap (λ l. telling l c.is_refusal.result) (c.as_slice.ensures.value ∙ c.in-Ok.ensures.bytes) ∙ ap (telling (printed reply)) c.is_refusal.ensures
     in
-    subst (λ (t : Task). IsDone t made (g.H.Host.told c.args.host.now) (g.H.Host.told c.show.new.host) c.show.result) same (c.show.ensures.done state made holds)
+    subst (λ (t : Task). IsDone t made (g.H.Host.told c.args.host.now) (g.H.Host.told c.show.new.host) c.show.result) same
+    (c.show.ensures.done state made holds)

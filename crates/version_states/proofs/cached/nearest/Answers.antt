@@ -22,7 +22,8 @@ loop-parent-init c =
       there = c.requires.there;
       same = refl;
       missing = subst (All P) (sym pushed) (All-cons P c.args.v [] (λ other. absurd (other refl)) (All-nil P));
-      found = λ v there. sym (append-nil (path h c.args.v)) ∙ path_step h c.whole.ensures [] c.args.v v there ∙ ap (λ l. path_of_parent h v.parent ++ reverse l) (sym pushed);
+      found = λ v there. sym (append-nil (path h c.args.v)) ∙ path_step h c.whole.ensures [] c.args.v v there
+          ∙ ap (λ l. path_of_parent h v.parent ++ reverse l) (sym pushed);
       uses = uses_none c.args.pool.now c.args.cache.now c.requires.usable;
       forms = c.requires.forms;
     }
@@ -32,7 +33,8 @@ returns-in-Some-2-clause-leads c =
     let meta = c.args.meta.now in
     let h = c.args.history.now.history in
     let back = c.loop-parent.back.items in
-    let split : path h c.args.v ≡ path h c.in-Some.parent ++ reverse back = c.loop-parent.invariant.found c.version.result.now c.version.ensures.version ∙ ap (λ o. path_of_parent h o ++ reverse back) c.in-Some.is in
+    let split : path h c.args.v ≡ path h c.in-Some.parent ++ reverse back =
+    c.loop-parent.invariant.found c.version.result.now c.version.ensures.version ∙ ap (λ o. path_of_parent h o ++ reverse back) c.in-Some.is in
     subst (λ (l : List ℕ). state_folded meta h c.args.v ≡ fold_package meta c.in-Some-2.model (operations_of h.versions l)) (sym c.reverse.ensures.items)
     (leads_on meta h c.in-Some.parent c.args.v (reverse back) c.in-Some-2.model split c.requires.leads (rw c.in-Some-2.is at c.in_ok-model.ensures.state))
 
@@ -40,7 +42,8 @@ pub returns-in-Some-2-clause-there : goal.returns-in-Some-2-clause-there
 returns-in-Some-2-clause-there c =
     let h = c.args.history.now.history in
     let back = c.loop-parent.back.items in
-    let split : path h c.args.v ≡ path h c.in-Some.parent ++ reverse back = c.loop-parent.invariant.found c.version.result.now c.version.ensures.version ∙ ap (λ o. path_of_parent h o ++ reverse back) c.in-Some.is in
+    let split : path h c.args.v ≡ path h c.in-Some.parent ++ reverse back =
+    c.loop-parent.invariant.found c.version.result.now c.version.ensures.version ∙ ap (λ o. path_of_parent h o ++ reverse back) c.in-Some.is in
     subst (All (λ u. u < length h.versions)) (sym c.reverse.ensures.items) (rest_there h c.args.v (path h c.in-Some.parent) (reverse back) split)
 
 pub loop-parent-preserved : goal.loop-parent-preserved
@@ -56,12 +59,16 @@ loop-parent-preserved c =
     record {
       same = same ∙ c.loop-parent.invariant.same;
       missing = subst (All P) (sym pushed)
-          (All-append P back (parent ∷ []) c.loop-parent.invariant.missing (All-cons P parent [] (λ other. subst (λ (es : Entries). lookup (nat_eq parent) (stands c.args.pool.now es) ≡ None) c.loop-parent.invariant.same none) (All-nil P)));
+          (All-append P back (parent ∷ []) c.loop-parent.invariant.missing
+          (All-cons P parent []
+          (λ other. subst (λ (es : Entries). lookup (nat_eq parent) (stands c.args.pool.now es) ≡ None) c.loop-parent.invariant.same none)
+          (All-nil P)));
       there = omega (arith, before, c.loop-parent.invariant.there);
       found = λ v there. c.loop-parent.invariant.found c.version.result.now c.version.ensures.version
           ∙ ap (λ o. path_of_parent h o ++ reverse back) c.in-Some.is
           ∙ path_step h c.whole.ensures back parent v there ∙ ap (λ l. path_of_parent h v.parent ++ reverse l) (sym pushed);
-      uses = uses_on c.args.pool.now c.args.pool.now c.args.pool.now c.args.cache.now c.loop-parent.cache c.cached_state.new.cache c.loop-parent.invariant.uses c.cached_state.ensures.uses;
+      uses = uses_on c.args.pool.now c.args.pool.now c.args.pool.now c.args.cache.now c.loop-parent.cache c.cached_state.new.cache
+          c.loop-parent.invariant.uses c.cached_state.ensures.uses;
       forms = c.cached_state.ensures.forms;
     }
 
@@ -70,7 +77,8 @@ returns-clause-leads c =
     let meta = c.args.meta.now in
     let h = c.args.history.now.history in
     let back = c.loop-parent.back.items in
-    let split : path h c.args.v ≡ reverse back = c.loop-parent.invariant.found c.version.result.now c.version.ensures.version ∙ ap (λ o. path_of_parent h o ++ reverse back) c.in_default.is in
+    let split : path h c.args.v ≡ reverse back =
+    c.loop-parent.invariant.found c.version.result.now c.version.ensures.version ∙ ap (λ o. path_of_parent h o ++ reverse back) c.in_default.is in
     ap (λ (l : List ℕ). fold_package meta nothing (operations_of h.versions l)) (split ∙ sym c.reverse-2.ensures.items)
     ∙ ap (λ (m : State). fold_package meta m (operations_of h.versions c.reverse-2.new.self.items)) (sym c.new.ensures.empty)
 
@@ -78,7 +86,8 @@ pub returns-clause-there : goal.returns-clause-there
 returns-clause-there c =
     let h = c.args.history.now.history in
     let back = c.loop-parent.back.items in
-    let split : path h c.args.v ≡ reverse back = c.loop-parent.invariant.found c.version.result.now c.version.ensures.version ∙ ap (λ o. path_of_parent h o ++ reverse back) c.in_default.is in
+    let split : path h c.args.v ≡ reverse back =
+    c.loop-parent.invariant.found c.version.result.now c.version.ensures.version ∙ ap (λ o. path_of_parent h o ++ reverse back) c.in_default.is in
     subst (All (λ u. u < length h.versions)) (sym c.reverse-2.ensures.items) (rest_there h c.args.v [] (reverse back) split)
 
 pub returns-in-Some-2-clause-missing : goal.returns-in-Some-2-clause-missing

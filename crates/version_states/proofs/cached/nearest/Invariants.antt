@@ -13,7 +13,8 @@ use Rattle.version_states.proofs.cached.nearest.Given as goal
 abbrev pub invariant-loop-parent : goal.invariant-loop-parent
 invariant-loop-parent l = record {
   there : l.at < length l.history.history.versions;
-  found : (version : Version) → slice_get l.history.history.versions l.at ≡ Some version → path l.history.history l.v ≡ path_of_parent l.history.history version.parent ++ reverse l.back.items;
+  found : (version : Version) → slice_get l.history.history.versions l.at ≡ Some version
+      → path l.history.history l.v ≡ path_of_parent l.history.history version.parent ++ reverse l.back.items;
   same : l.cache ≡ l.fn.cache;
   missing : All (λ u. u ≢ l.v → lookup (nat_eq u) (stands l.pool l.fn.cache) ≡ None) l.back.items;
   uses : Uses l.pool l.pool l.fn.cache l.cache;

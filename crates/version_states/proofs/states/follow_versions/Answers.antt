@@ -14,8 +14,10 @@ returns-in_err-follow-clause-cannot c =
     let meta = c.args.meta.now in
     let h = c.args.history.now.history in
     let us = c.args.versions.now in
-    let at : package_at h.versions (slice_index_or us c.loop-u.u-index 0) ≡ c.as_slice.result.now = ap (λ (o : Option Version). option_map_or (λ v. v.«package») o []) c.version.ensures.version ∙ sym c.as_slice.ensures in
-    cannot_follow meta c.args.model.now c.loop-u.model h.versions us c.loop-u.u-index 0 c.in_err-follow.field-0.0 c.from_residual.result c.from_residual.ensures.0 c.from_residual.ensures.1 c.loop-u-test.true c.loop-u.invariant.same
+    let at : package_at h.versions (slice_index_or us c.loop-u.u-index 0) ≡ c.as_slice.result.now =
+    ap (λ (o : Option Version). option_map_or (λ v. v.«package») o []) c.version.ensures.version ∙ sym c.as_slice.ensures in
+    cannot_follow meta c.args.model.now c.loop-u.model h.versions us c.loop-u.u-index 0 c.in_err-follow.field-0.0 c.from_residual.result
+    c.from_residual.ensures.0 c.from_residual.ensures.1 c.loop-u-test.true c.loop-u.invariant.same
     (subst (λ (p : List Operation). c.in_err-follow.field-0.0 ≢ Memory → fold_package meta c.loop-u.model p ≡ None) (sym at) c.in_err-follow.ensures.cannot)
 
 pub loop-u-preserved : goal.loop-u-preserved
@@ -23,7 +25,8 @@ loop-u-preserved c =
     let meta = c.args.meta.now in
     let h = c.args.history.now.history in
     let us = c.args.versions.now in
-    let at : package_at h.versions (slice_index_or us c.loop-u.u-index 0) ≡ c.as_slice.result.now = ap (λ (o : Option Version). option_map_or (λ v. v.«package») o []) c.version.ensures.version ∙ sym c.as_slice.ensures in
+    let at : package_at h.versions (slice_index_or us c.loop-u.u-index 0) ≡ c.as_slice.result.now =
+    ap (λ (o : Option Version). option_map_or (λ v. v.«package») o []) c.version.ensures.version ∙ sym c.as_slice.ensures in
     record {
       same = c.loop-u.invariant.same ∙ version_on meta c.loop-u.model c.follow.new.model h.versions us c.loop-u.u-index 0 c.loop-u-test.true
           (subst (λ (p : List Operation). fold_package meta c.loop-u.model p ≡ Some c.follow.new.model) (sym at) c.in_ok-follow.ensures.done);

@@ -7,6 +7,7 @@ use Rattle.version_states.proofs.states.follow_versions.Given as goal
 
 abbrev pub invariant-loop-u : goal.invariant-loop-u
 invariant-loop-u l = record {
-  same : fold_package l.meta l.fn.model (operations_of l.history.history.versions l.versions) ≡ fold_package l.meta l.model (operations_of l.history.history.versions (drop l.u-index l.versions));
+  same : fold_package l.meta l.fn.model (operations_of l.history.history.versions l.versions) ≡ fold_package l.meta l.model
+      (operations_of l.history.history.versions (drop l.u-index l.versions));
   good : Good l.meta l.model;
 }

@@ -7,4 +7,5 @@ loop-step-init c = sym (append-nil c.args.out.now)
 
 pub loop-step-preserved : goal.loop-step-preserved
 loop-step-preserved c =
-    copied_more c.args.out.now c.loop-step.out c.push.new.self c.args.steps.now c.loop-step.step-index c.step-item.result c.in_ok-copy.field-0 c.loop-step-test.true c.loop-step.invariant c.in_ok-push.ensures.ok (c.in_ok-copy.ensures ∙ c.step-item.is)
+    copied_more c.args.out.now c.loop-step.out c.push.new.self c.args.steps.now c.loop-step.step-index c.step-item.result c.in_ok-copy.field-0
+    c.loop-step-test.true c.loop-step.invariant c.in_ok-push.ensures.ok (c.in_ok-copy.ensures ∙ c.step-item.is)

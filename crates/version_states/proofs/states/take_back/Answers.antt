@@ -8,8 +8,10 @@ follow_all-requires-clause-good c = led_good c.args.meta.now c.requires.sound (s
 
 pub follow_all-requires-clause-leads : goal.follow_all-requires-clause-leads
 follow_all-requires-clause-leads c =
-    ap is_some (led_back c.args.meta.now c.requires.sound c.args.«package».now c.as_slice.result.now c.args.model.now c.requires.led (c.as_slice.ensures ∙ c.in_ok-reversal.ensures.reversed))
+    ap is_some (led_back c.args.meta.now c.requires.sound c.args.«package».now c.as_slice.result.now c.args.model.now c.requires.led
+    (c.as_slice.ensures ∙ c.in_ok-reversal.ensures.reversed))
 
 pub returns-clause-back : goal.returns-clause-back
 returns-clause-back c =
-    all_taken_back c.args.meta.now c.requires.sound c.args.«package».now c.as_slice.result.now c.args.model.now c.follow_all.new.model c.follow_all.result c.requires.led (c.as_slice.ensures ∙ c.in_ok-reversal.ensures.reversed) c.follow_all.ensures.done
+    all_taken_back c.args.meta.now c.requires.sound c.args.«package».now c.as_slice.result.now c.args.model.now c.follow_all.new.model
+    c.follow_all.result c.requires.led (c.as_slice.ensures ∙ c.in_ok-reversal.ensures.reversed) c.follow_all.ensures.done

@@ -3,4 +3,6 @@ use Rattle.version_states.proofs.Taking.{led_pushed}
 use Rattle.version_states.proofs.states.untake.Goals as goal
 
 pub take_back-requires-clause-led : goal.take_back-requires-clause-led
-take_back-requires-clause-led c = led_pushed c.args.meta.now c.args.steps c.args.model.now c.new-package.result c.push.new.self _ c.new-package.ensures c.in_ok-push.ensures.ok refl c.requires.led
+take_back-requires-clause-led c =
+    led_pushed c.args.meta.now c.args.steps c.args.model.now c.new-package.result c.push.new.self _ c.new-package.ensures c.in_ok-push.ensures.ok refl
+    c.requires.led

@@ -16,4 +16,5 @@ loop-step-preserved c = record {
 
 pub returns-clause-kept : goal.returns-clause-kept
 returns-clause-kept c = λ j low.
-    ap (list_any (deletes (c.args.prefix.now ++ decimal j))) (sym (take_all c.loop-step.step-index c.args.steps.now c.loop-step-test.false)) ∙ c.loop-step.invariant.kept j low
+    ap (list_any (deletes (c.args.prefix.now ++ decimal j))) (sym (take_all c.loop-step.step-index c.args.steps.now c.loop-step-test.false))
+    ∙ c.loop-step.invariant.kept j low

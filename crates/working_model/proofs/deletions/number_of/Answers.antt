@@ -11,5 +11,6 @@ returns-in-None c = λ j small is. absurd (c.in-None.ensures.cases (decimal j) (
 pub returns-in-Some : goal.returns-in-Some
 returns-in-Some c = λ j small is.
     let h = c.in-Some.ensures.cases in
-    let rest : c.in-Some.number.now ≡ decimal j = behind c.args.prefix.now c.as_str.result.now c.in-Some.number.now h.0 h.1.1 h.2 (decimal j) (c.as_str.ensures.bytes ∙ is) in
+    let rest : c.in-Some.number.now ≡ decimal j =
+    behind c.args.prefix.now c.as_str.result.now c.in-Some.number.now h.0 h.1.1 h.2 (decimal j) (c.as_str.ensures.bytes ∙ is) in
     c.ok.ensures.value ∙ ap result_ok (parse-decimal 64 j c.in-Some.number.now c.parse.result small small rest c.parse.ensures.value.0)

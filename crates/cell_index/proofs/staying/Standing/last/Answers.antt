@@ -3,7 +3,9 @@ use Rattle.cell_index.proofs.Touching.{seek_none, seek_some}
 use Rattle.cell_index.proofs.staying.Standing.last.Goals as goal
 
 pub returns-then-end-eq0-clause-last : goal.returns-then-end-eq0-clause-last
-returns-then-end-eq0-clause-last c = λ p p_is. seek_none c.args.self.now c.args.prints.now c.index-prints-at.result c.args.at c.later_of-end.result c.later_of-end-2.result c.later_of-end-3.result c.later_idle-end.result
+returns-then-end-eq0-clause-last c =
+    λ p p_is. seek_none c.args.self.now c.args.prints.now c.index-prints-at.result c.args.at c.later_of-end.result c.later_of-end-2.result
+    c.later_of-end-3.result c.later_idle-end.result
     c.as_slice-writes.result.now c.as_slice-reads.result.now c.deref.result.now c.deref-2.result.now c.deref-3.result.now c.requires.keeps
     c.as_slice-writes.ensures c.as_slice-reads.ensures c.deref.ensures.value c.deref-2.ensures.value c.deref-3.ensures.value
     c.later_of-end-2.ensures.further c.later_of-end-3.ensures.further c.later_idle-end.ensures.further
@@ -12,7 +14,9 @@ returns-then-end-eq0-clause-last c = λ p p_is. seek_none c.args.self.now c.args
     c.index-prints-at.is c.requires.within p p_is c.if-end-eq0.true
 
 pub returns-else-end-eq0-clause-last : goal.returns-else-end-eq0-clause-last
-returns-else-end-eq0-clause-last c = λ p p_is. seek_some c.args.self.now c.args.prints.now c.index-prints-at.result c.args.at c.later_of-end.result c.later_of-end-2.result c.later_of-end-3.result c.later_idle-end.result
+returns-else-end-eq0-clause-last c =
+    λ p p_is. seek_some c.args.self.now c.args.prints.now c.index-prints-at.result c.args.at c.later_of-end.result c.later_of-end-2.result
+    c.later_of-end-3.result c.later_idle-end.result
     c.as_slice-writes.result.now c.as_slice-reads.result.now c.deref.result.now c.deref-2.result.now c.deref-3.result.now c.requires.keeps
     c.as_slice-writes.ensures c.as_slice-reads.ensures c.deref.ensures.value c.deref-2.ensures.value c.deref-3.ensures.value
     c.later_of-end-2.ensures.further c.later_of-end-3.ensures.further c.later_idle-end.ensures.further

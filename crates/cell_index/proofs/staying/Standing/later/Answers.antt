@@ -8,11 +8,15 @@ use Rattle.cell_index.proofs.staying.Standing.later.Goals as goal
 pub returns-then-place-floor-clause-clear : goal.returns-then-place-floor-clause-clear
 returns-then-place-floor-clause-clear c = λ k has_k far hit.
     let low = c.if-place-floor.true in
-    passed_above c.args.list.now c.loop-i.i (Hit c.args.self.now.stands.items c.args.prints.now c.args.print.now c.args.below) c.loop-i-test.true c.loop-i.invariant.within c.loop-i.invariant.passed c.requires.rise.0 k c.requires.rise.1 (omega (arith, far, low)) has_k hit
+    passed_above c.args.list.now c.loop-i.i
+    (Hit c.args.self.now.stands.items c.args.prints.now c.args.print.now c.args.below) c.loop-i-test.true c.loop-i.invariant.within
+    c.loop-i.invariant.passed c.requires.rise.0 k c.requires.rise.1 (omega (arith, far, low)) has_k hit
 
 pub returns-then-is_hit-clause-clear : goal.returns-then-is_hit-clause-clear
 returns-then-is_hit-clause-clear c = λ k has_k far hit.
-    passed_above c.args.list.now c.loop-i.i (Hit c.args.self.now.stands.items c.args.prints.now c.args.print.now c.args.below) c.loop-i-test.true c.loop-i.invariant.within c.loop-i.invariant.passed c.requires.rise.0 k c.requires.rise.1 (omega (arith, far)) has_k hit
+    passed_above c.args.list.now c.loop-i.i
+    (Hit c.args.self.now.stands.items c.args.prints.now c.args.print.now c.args.below) c.loop-i-test.true c.loop-i.invariant.within
+    c.loop-i.invariant.passed c.requires.rise.0 k c.requires.rise.1 (omega (arith, far)) has_k hit
 
 pub returns-clause-clear : goal.returns-clause-clear
 returns-clause-clear c = λ k has_k far hit.

@@ -10,5 +10,6 @@ abbrev pub invariant-loop-cell : goal.invariant-loop-cell
 invariant-loop-cell l = record {
   further : l.floor ≤ l.end;
   hit : l.floor < l.end → Hit l.self.stands.items l.prints l.print l.below (l.end - 1);
-  clear : (h : Held) → Contains (take l.cell-index l.cells) h → (k : ℕ) → Contains (row_of l.table h) k → l.end ≤ k → Hit l.self.stands.items l.prints l.print l.below k → ⊥;
+  clear : (h : Held) → Contains (take l.cell-index l.cells) h → (k : ℕ) → Contains (row_of l.table h) k → l.end ≤ k
+      → Hit l.self.stands.items l.prints l.print l.below k → ⊥;
 }

@@ -17,7 +17,8 @@ both_ok (Ok x) f p q = f x p q
 both_ok (Err e) f p q = p
 
 pub features_of-requires-clause-rows : goal.features_of-requires-clause-rows
-features_of-requires-clause-rows c f = subst Rises (sym (ap (λ o. numbers (inner_get (λ r. tree.get nat_cmp r f) o)) c.in-Some.ensures.value)) (c.self.invariant c.args.e.now f).0
+features_of-requires-clause-rows c f =
+    subst Rises (sym (ap (λ o. numbers (inner_get (λ r. tree.get nat_cmp r f) o)) c.in-Some.ensures.value)) (c.self.invariant c.args.e.now f).0
 
 pub returns-in-None : goal.returns-in-None
 returns-in-None c = record {

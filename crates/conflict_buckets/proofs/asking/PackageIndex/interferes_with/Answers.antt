@@ -14,8 +14,12 @@ returns-then-meets c =
     let os = c.args._package.now in
     let p = c.in_ok-print.print in
     let o = c.other-item.result in
-    let tells = c.meets.ensures.met ∙ ap (list_any (prints_interfere p)) c.deref.ensures.value ∙ prints_meet meta c.args.self.now.prints.items os p o c.requires.index.prints c.in_ok-print.ensures.writes c.in_ok-print.ensures.reads in
-    record { found = found_here meta os c.args.others.now c.loop-other.other-index o c.loop-other-test.true c.other-item.is c.loop-other.invariant (sym tells ∙ c.if-meets.true) }
+    let tells = c.meets.ensures.met ∙ ap (list_any (prints_interfere p)) c.deref.ensures.value
+    ∙ prints_meet meta c.args.self.now.prints.items os p o c.requires.index.prints c.in_ok-print.ensures.writes c.in_ok-print.ensures.reads in
+    record {
+      found = found_here meta os c.args.others.now c.loop-other.other-index o c.loop-other-test.true c.other-item.is c.loop-other.invariant
+          (sym tells ∙ c.if-meets.true);
+    }
 
 pub loop-other-preserved : goal.loop-other-preserved
 loop-other-preserved c =
@@ -23,5 +27,7 @@ loop-other-preserved c =
     let os = c.args._package.now in
     let p = c.in_ok-print.print in
     let o = c.other-item.result in
-    let tells = c.meets.ensures.met ∙ ap (list_any (prints_interfere p)) c.deref.ensures.value ∙ prints_meet meta c.args.self.now.prints.items os p o c.requires.index.prints c.in_ok-print.ensures.writes c.in_ok-print.ensures.reads in
-    found_later meta os c.args.others.now c.loop-other.other-index o c.loop-other-test.true c.other-item.is c.loop-other.invariant (sym tells ∙ c.if-meets.false)
+    let tells = c.meets.ensures.met ∙ ap (list_any (prints_interfere p)) c.deref.ensures.value
+    ∙ prints_meet meta c.args.self.now.prints.items os p o c.requires.index.prints c.in_ok-print.ensures.writes c.in_ok-print.ensures.reads in
+    found_later meta os c.args.others.now c.loop-other.other-index o c.loop-other-test.true c.other-item.is c.loop-other.invariant
+    (sym tells ∙ c.if-meets.false)

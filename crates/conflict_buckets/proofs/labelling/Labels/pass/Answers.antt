@@ -13,7 +13,8 @@ reach_all-requires-clause-linked c = λ k on.
     let order = c.args.self.now.order.items in
     let place = c.index.result.now in
     let place_is = c.index.ensures ∙ get_or_default_zero order c.args.at place c.requires.there in
-    near_linked c.args.prints.now c.args.label c.args.at place c.args.self.now.labels.items c.args.self.now.reached.items order c.index-prints-place.result c.in_ok-near.near.items c.requires.spread c.requires.there place_is c.index-prints-place.is c.in_ok-near.ensures.met
+    near_linked c.args.prints.now c.args.label c.args.at place c.args.self.now.labels.items c.args.self.now.reached.items order
+    c.index-prints-place.result c.in_ok-near.near.items c.requires.spread c.requires.there place_is c.index-prints-place.is c.in_ok-near.ensures.met
     k (subst (λ (l : List ℕ). Contains l k) c.deref-2.ensures.value on)
 
 pub returns-clause-spread : goal.returns-clause-spread
@@ -26,7 +27,8 @@ returns-clause-spread c =
     let longer = c.reach_all.new.self.order.items in
     let more = c.reach_all.new.self.reached.items in
     passed_one prints c.args.label c.args.at c.reach_all.new.self.labels.items more longer made.spread (made.further.stands c.args.at c.requires.there).0
-    (all_reached prints c.args.label c.args.at place c.args.self.now.labels.items c.args.self.now.reached.items more order longer c.index-prints-place.result c.in_ok-near.near.items c.requires.spread c.requires.there place_is c.index-prints-place.is
+    (all_reached prints c.args.label c.args.at place c.args.self.now.labels.items c.args.self.now.reached.items more order longer
+    c.index-prints-place.result c.in_ok-near.near.items c.requires.spread c.requires.there place_is c.index-prints-place.is
     (λ k off met. c.in_ok-near.ensures.found k (ap (λ (l : List Bool). get_or l k false) c.deref.ensures.value ∙ off) met)
     (λ k on. made.all k (subst (λ (l : List ℕ). Contains l k) (sym c.deref-2.ensures.value) on))
     made.further)

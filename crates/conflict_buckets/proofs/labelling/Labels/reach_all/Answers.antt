@@ -23,7 +23,8 @@ loop-place-preserved c =
         | inl before ↦ made.further.kept k (c.loop-place.invariant.all k before)
         | inr e ↦ subst (λ n. get_or more n false ≡ true) e made.here
       ];
-      further = further_on c.args.self.now.reached.items c.loop-place.self.reached.items more c.args.self.now.order.items c.loop-place.self.order.items c.reach_new.new.self.order.items c.loop-place.invariant.further made.further;
+      further = further_on c.args.self.now.reached.items c.loop-place.self.reached.items more c.args.self.now.order.items
+          c.loop-place.self.order.items c.reach_new.new.self.order.items c.loop-place.invariant.further made.further;
     }
 
 pub returns-clause-all : goal.returns-clause-all

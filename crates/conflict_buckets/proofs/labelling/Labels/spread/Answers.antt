@@ -14,4 +14,5 @@ returns c =
     let long = c.loop-at.self.order.ok.0 in
     let over = c.loop-at-test.false in
     let past : length order ≤ c.loop-at.at = omega (arith, size, long, over) in
-    start_on c.args.prints.now c.args.start c.loop-at.at c.loop-at.self.labels.items c.loop-at.self.reached.items order c.loop-at.invariant.spread past c.loop-at.invariant.here
+    start_on c.args.prints.now c.args.start c.loop-at.at c.loop-at.self.labels.items c.loop-at.self.reached.items order c.loop-at.invariant.spread
+    past c.loop-at.invariant.here

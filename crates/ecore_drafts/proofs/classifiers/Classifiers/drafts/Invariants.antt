@@ -6,6 +6,7 @@ use Rattle.ecore_drafts.proofs.classifiers.Classifiers.drafts.Given as goal
 
 abbrev pub invariant-loop-row : goal.invariant-loop-row
 invariant-loop-row l = record {
-  whole : l.drafts.items ++ flat_map (drafts_of l.rows) (enumerate_from l.owner (classes_of (drop l.row-index l.rows))) ≡ flat_map (drafts_of l.rows) (enumerate_from 0 (classes_of l.rows));
+  whole : l.drafts.items ++ flat_map (drafts_of l.rows) (enumerate_from l.owner (classes_of (drop l.row-index l.rows))) ≡ flat_map (drafts_of l.rows)
+      (enumerate_from 0 (classes_of l.rows));
   counted : l.owner ≤ l.row-index;
 }

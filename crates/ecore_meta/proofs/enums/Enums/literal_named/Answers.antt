@@ -11,4 +11,5 @@ pub returns : goal.returns
 returns c =
     let P : List Enum → Type 0 = λ enums. HasLiterals enums c.self.inside.literals.items in
     let has = subst P c.self.view_is c.self.invariant in
-    c.number_at.ensures ∙ ap (λ ms. option_and_then (λ m. get_by_text m c.args.text.now) (slice_get ms c.args.e)) c.as_slice.ensures.value ∙ known_at c.args.self.now c.self.inside.literals.items c.args.e c.args.text.now has.known
+    c.number_at.ensures ∙ ap (λ ms. option_and_then (λ m. get_by_text m c.args.text.now) (slice_get ms c.args.e)) c.as_slice.ensures.value
+    ∙ known_at c.args.self.now c.self.inside.literals.items c.args.e c.args.text.now has.known

@@ -12,7 +12,9 @@ pub returns-in-None : goal.returns-in-None
 returns-in-None c =
     let f = c.args.f in
     let xs = c.as_slice.result.now in
-    let none = feature_found xs f ∙ ap (option_map (λ (e : ℕ × List Value). e.1)) (position_none (λ (e : ℕ × List Value). nat_eq e.0 f) xs (sym c.index_of.ensures ∙ c.in-None.is)) in
+    let none = feature_found xs f
+    ∙ ap (option_map (λ (e : ℕ × List Value). e.1))
+    (position_none (λ (e : ℕ × List Value). nat_eq e.0 f) xs (sym c.index_of.ensures ∙ c.in-None.is)) in
     ap (λ o. unwrap_or o []) (sym none ∙ sym (get-flat xs f) ∙ ap (λ es. get (flat es) f) c.as_slice.ensures.value ∙ ap (λ m. get m f) c.self.view_is)
 
 pub returns-in-Some : goal.returns-in-Some
@@ -21,6 +23,7 @@ returns-in-Some c =
     let xs = c.as_slice.result.now in
     let at = position_some (λ (e : ℕ × List Value). nat_eq e.0 f) xs c.in-Some.at (sym c.index_of.ensures ∙ c.in-Some.is) in
     let some = feature_found xs f ∙ ap (option_map (λ (e : ℕ × List Value). e.1)) at.3 in
-    let index = c.index.ensures ∙ ap (λ es. slice_index_or es c.in-Some.at c.index.result.now) (sym c.as_slice.ensures.value) ∙ index_is xs c.in-Some.at c.index.result.now at.0 at.1 in
+    let index = c.index.ensures ∙ ap (λ es. slice_index_or es c.in-Some.at c.index.result.now) (sym c.as_slice.ensures.value)
+    ∙ index_is xs c.in-Some.at c.index.result.now at.0 at.1 in
     c.as_slice-in-Some.ensures ∙ ap (λ (e : ℕ × List Value). e.1) index
     ∙ ap (λ o. unwrap_or o []) (sym some ∙ sym (get-flat xs f) ∙ ap (λ es. get (flat es) f) c.as_slice.ensures.value ∙ ap (λ m. get m f) c.self.view_is)

@@ -14,7 +14,8 @@ invariant_of-self c =
     (λ is. filled_alike c.self.inside.items.items c.put_of.new.items.items c.self.invariant is)
 
 pub returns-clause-err : goal.returns-clause-err
-returns-clause-err c = on_err_weaker c.put_of.result (λ is. list_alike c.self.inside.items.items c.put_of.new.items.items is ∙ c.self.view_is) c.put_of.ensures.err
+returns-clause-err c = on_err_weaker c.put_of.result
+    (λ is. list_alike c.self.inside.items.items c.put_of.new.items.items is ∙ c.self.view_is) c.put_of.ensures.err
 
 pub returns-clause-ok : goal.returns-clause-ok
 returns-clause-ok c =

@@ -17,7 +17,8 @@ invariant_of-self c =
     let count : length h.tags < most_numbered = subst (λ (s : Held). length s.history.tags < most_numbered) seen c.requires.count in
     let within : version < length h.versions = subst (λ (s : Held). version < length s.history.versions) seen c.requires.version in
     let added = sym c.push_reserved.ensures.items in (
-      subst (λ (ts : List Tag). IsWhole (record { versions = c.self.inside.versions.items; branches = c.self.inside.branches.items; tags = ts })) added (whole_tag h c.self.invariant.0 name version within),
+      subst (λ (ts : List Tag). IsWhole (record { versions = c.self.inside.versions.items; branches = c.self.inside.branches.items; tags = ts }))
+          added (whole_tag h c.self.invariant.0 name version within),
       c.self.invariant.1,
       c.self.invariant.2,
       omega (arith, count, c.push_reserved.ensures.len, c.self.inside.tags.ok.0),

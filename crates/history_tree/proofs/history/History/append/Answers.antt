@@ -27,7 +27,9 @@ invariant_of-self c =
       omega (arith, count, c.push_reserved.ensures.len, c.self.inside.versions.ok.0),
       c.self.invariant.2,
       c.self.invariant.3,
-      subst (λ (vs : List Version). AreHeads (record { versions = vs; branches = c.self.inside.branches.items; tags = c.self.inside.tags.items }) (slice_set heads v.branch c.len-number.result)) added
+      subst (λ (vs : List Version).
+          AreHeads (record { versions = vs; branches = c.self.inside.branches.items; tags = c.self.inside.tags.items })
+          (slice_set heads v.branch c.len-number.result)) added
           (subst (λ k. AreHeads (with_version h v) (slice_set heads v.branch k)) (sym number) (heads_more h v heads on c.self.invariant.4)),
       c.self.invariant.5,
       c.self.invariant.6,

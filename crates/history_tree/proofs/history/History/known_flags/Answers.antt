@@ -16,14 +16,17 @@ flag_all-requires c =
 pub flag_all-requires-2 : goal.flag_all-requires-2
 flag_all-requires-2 c =
     have_flags c.flag_all.new.flags.items (length c.args.self.now.history.versions) c.args.pending.now
-    (c.flag_all.ensures.size ∙ ap length (c.in_ok-flags.ensures.items_if_clones_equal (λ y same. same)) ∙ length-replicate c.version_count.result false ∙ c.version_count.ensures.count)
+    (c.flag_all.ensures.size ∙ ap length (c.in_ok-flags.ensures.items_if_clones_equal (λ y same. same))
+    ∙ length-replicate c.version_count.result false ∙ c.version_count.ensures.count)
     c.requires.pending
 
 pub loop-v-init : goal.loop-v-init
 loop-v-init c =
-    flags_first c.args.self.now.history c.as_slice-v-items.result.now c.args.pending.now c.version_count.result c.in_ok-flags.flags.items c.flag_all.new.flags.items c.flag_all-2.new.flags.items
+    flags_first c.args.self.now.history c.as_slice-v-items.result.now c.args.pending.now c.version_count.result c.in_ok-flags.flags.items
+    c.flag_all.new.flags.items c.flag_all-2.new.flags.items
     c.version_count.ensures.count (c.in_ok-flags.ensures.items_if_clones_equal (λ y same. same))
-    (subst (λ (l : List ℕ). Flagged c.in_ok-flags.flags.items c.flag_all.new.flags.items l) (c.as_slice.ensures ∙ sym c.as_slice-v-items.ensures) c.flag_all.ensures)
+    (subst (λ (l : List ℕ). Flagged c.in_ok-flags.flags.items c.flag_all.new.flags.items l)
+    (c.as_slice.ensures ∙ sym c.as_slice-v-items.ensures) c.flag_all.ensures)
     c.flag_all-2.ensures
 
 pub flag_all-requires-in-loop-v : goal.flag_all-requires-in-loop-v

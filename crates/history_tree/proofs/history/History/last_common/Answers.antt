@@ -11,7 +11,8 @@ loop-first-preserved c =
     record {
       first_there = omega (arith, c.loop-first.invariant.first_there, c.parent_of-first.ensures.before);
       second_there = c.loop-first.invariant.second_there;
-      same = common_first c.args.self.now.history c.whole.ensures first second c.parent_of-first.result c.loop-first.invariant.second_there later c.parent_of-first.ensures.path ∙ c.loop-first.invariant.same;
+      same = common_first c.args.self.now.history c.whole.ensures first second c.parent_of-first.result c.loop-first.invariant.second_there later
+          c.parent_of-first.ensures.path ∙ c.loop-first.invariant.same;
     }
 
 pub loop-first-preserved-then-first-second : goal.loop-first-preserved-then-first-second
@@ -21,7 +22,8 @@ loop-first-preserved-then-first-second c =
     record {
       first_there = c.loop-first.invariant.first_there;
       second_there = omega (arith, c.loop-first.invariant.second_there, c.parent_of-second.ensures.before);
-      same = common_second c.args.self.now.history c.whole.ensures first second c.parent_of-second.result c.loop-first.invariant.first_there c.if-first-second.true c.parent_of-second.ensures.path ∙ c.loop-first.invariant.same;
+      same = common_second c.args.self.now.history c.whole.ensures first second c.parent_of-second.result c.loop-first.invariant.first_there
+          c.if-first-second.true c.parent_of-second.ensures.path ∙ c.loop-first.invariant.same;
     }
 
 found : (c : goal.After-loop-first) → c.loop-first.first ≡ last_common c.args.self.now.history c.args.a c.args.b
@@ -36,6 +38,7 @@ returns c =
     let h = c.args.self.now.history in
     record {
       common = found c;
-      last = subst (λ v. IsLastCommon h c.args.a c.args.b v) (sym (found c)) (common_last h c.whole.ensures c.args.a c.args.b c.requires.first c.requires.second);
+      last = subst (λ v. IsLastCommon h c.args.a c.args.b v) (sym (found c))
+          (common_last h c.whole.ensures c.args.a c.args.b c.requires.first c.requires.second);
       there = c.loop-first.invariant.first_there;
     }

@@ -13,7 +13,8 @@ loop-parent-init c =
     let pushed : c.push.new.self.items ≡ c.args.v ∷ [] = grind (arith, c.in_ok-push.ensures.items, c.new-back.ensures.items) in
     record {
       there = c.requires.there;
-      found = λ v there. sym (append-nil (path h c.args.v)) ∙ path_step h c.whole.ensures [] c.args.v v there ∙ ap (λ l. path_of_parent h v.parent ++ reverse l) (sym pushed);
+      found = λ v there. sym (append-nil (path h c.args.v)) ∙ path_step h c.whole.ensures [] c.args.v v there
+          ∙ ap (λ l. path_of_parent h v.parent ++ reverse l) (sym pushed);
     }
 
 pub loop-parent-preserved : goal.loop-parent-preserved

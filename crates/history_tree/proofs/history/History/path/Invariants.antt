@@ -9,7 +9,8 @@ use Rattle.history_tree.proofs.history.History.path.Given as goal
 abbrev pub invariant-loop-parent : goal.invariant-loop-parent
 invariant-loop-parent l = record {
   there : l.at < length l.self.history.versions;
-  found : (version : Version) → slice_get l.self.history.versions l.at ≡ Some version → path l.self.history l.v ≡ path_of_parent l.self.history version.parent ++ reverse l.back.items;
+  found : (version : Version) → slice_get l.self.history.versions l.at ≡ Some version
+      → path l.self.history l.v ≡ path_of_parent l.self.history version.parent ++ reverse l.back.items;
 }
 
 abbrev pub decreases-loop-parent : goal.decreases-loop-parent

@@ -8,4 +8,5 @@ pub returns-clause-parent : goal.returns-clause-parent
 returns-clause-parent c =
     let versions = c.self.inside.versions.items in
     let within : c.args.v < length versions = subst (λ (s : Held). c.args.v < length s.history.versions) (sym c.self.view_is) c.requires.there in
-    parent_before 0 versions c.args.v c.args.v c.index.result.now c.self.invariant.0.parents (slice_get_read versions (length versions) c.args.v c.index.result.now refl within c.index.ensures) (omega arith)
+    parent_before 0 versions c.args.v c.args.v c.index.result.now c.self.invariant.0.parents
+    (slice_get_read versions (length versions) c.args.v c.index.result.now refl within c.index.ensures) (omega arith)

@@ -17,7 +17,8 @@ module _ (bytes : List ℕ) (from : ℕ) (low : from ≤ length bytes) (before :
         | inl early ↦ before k early feed
         | inr late ↦
             let here : from + (k - from) ≡ k = omega arith in
-            none (k - from) (omega arith) (omega arith) (ap (λ (n : ℕ). n == 10) (behind bytes from (k - from) (omega arith) ∙ ap (λ (n : ℕ). get_or bytes n 0) here ∙ feed))
+            none (k - from) (omega arith) (omega arith)
+            (ap (λ (n : ℕ). n == 10) (behind bytes from (k - from) (omega arith) ∙ ap (λ (n : ℕ). get_or bytes n 0) here ∙ feed))
       ]
 
 pub returns-in-Some-clause-found : goal.returns-in-Some-clause-found
@@ -39,4 +40,5 @@ returns-in-None-clause-none c = λ k below.
     let from = c.args.from in
     let size : length (take (length c.args.bytes.now - c.args.from) (drop c.args.from c.args.bytes.now)) ≡ length c.args.bytes.now - c.args.from =
     omega (arith, length-take (length c.args.bytes.now - c.args.from) (drop c.args.from c.args.bytes.now), length-drop c.args.from c.args.bytes.now) in
-    none_before bytes from c.requires.from c.requires.before (length bytes - from) (omega arith) (λ j low high. c.in-None.ensures j low (omega (arith, size, high))) k (omega (arith, below, c.requires.from))
+    none_before bytes from c.requires.from c.requires.before (length bytes - from) (omega arith)
+    (λ j low high. c.in-None.ensures j low (omega (arith, size, high))) k (omega (arith, below, c.requires.from))

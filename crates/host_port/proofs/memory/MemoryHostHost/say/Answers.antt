@@ -6,16 +6,26 @@ use Rattle.host_port.proofs.Replaying.{listed_in, after-push, said-push, disk_du
 use Rattle.host_port.proofs.memory.MemoryHostHost.say.Goals as goal
 
 pub invariant_of-self-clause-file_is : goal.invariant_of-self-clause-file_is
-invariant_of-self-clause-file_is c = c.args.self.now.file_is ∙ ap (λ d. d.now) (sym (quiet_file c.args.self.now.first.items c.args.self.now.calls.items c.begins.new.calls.items c.if-not-begins.ensures.refused))
+invariant_of-self-clause-file_is c =
+    c.args.self.now.file_is
+    ∙ ap (λ d. d.now) (sym (quiet_file c.args.self.now.first.items c.args.self.now.calls.items c.begins.new.calls.items c.if-not-begins.ensures.refused))
 
 pub invariant_of-self-clause-said_is : goal.invariant_of-self-clause-said_is
-invariant_of-self-clause-said_is c = c.args.self.now.said_is ∙ sym (quiet_words c.args.self.now.calls.items c.begins.new.calls.items c.if-not-begins.ensures.refused)
+invariant_of-self-clause-said_is c =
+    c.args.self.now.said_is ∙ sym (quiet_words c.args.self.now.calls.items c.begins.new.calls.items c.if-not-begins.ensures.refused)
 
 pub returns-then-not-begins-clause-disk : goal.returns-then-not-begins-clause-disk
-returns-then-not-begins-clause-disk c = λ told t low high. (quiet_disk c.args.self.now.first.items c.args.self.now.calls.items c.begins.new.calls.items c.if-not-begins.ensures.refused t low high)
+returns-then-not-begins-clause-disk c =
+    λ told t low high. (quiet_disk c.args.self.now.first.items c.args.self.now.calls.items c.begins.new.calls.items c.if-not-begins.ensures.refused t
+    low high)
 
 pub returns-then-not-begins-clause-part : goal.returns-then-not-begins-clause-part
-returns-then-not-begins-clause-part c = λ told t low high. (0, quiet_said c.args.self.now.calls.items c.begins.new.calls.items c.if-not-begins.ensures.refused t low high ∙ sym (append-nil _))
+returns-then-not-begins-clause-part c =
+    λ told t low high. (
+      0,
+      quiet_said c.args.self.now.calls.items c.begins.new.calls.items c.if-not-begins.ensures.refused t low high
+          ∙ sym (append-nil _),
+    )
 
 pub invariant_of-self-in-Ok-clause-file_is : goal.invariant_of-self-in-Ok-clause-file_is
 invariant_of-self-in-Ok-clause-file_is c =
@@ -57,7 +67,8 @@ returns-in-Ok-clause-part c = λ told t low high.
 pub returns-then-not-begins-clause-failed : goal.returns-then-not-begins-clause-failed
 returns-then-not-begins-clause-failed c = record {
   cause = inl (listed_in _ _ _ c.deref.ensures.value c.if-not-begins.ensures.listed);
-  disk = λ told t low high. quiet_disk c.args.self.now.first.items c.args.self.now.calls.items c.begins.new.calls.items c.if-not-begins.ensures.refused t low high;
+  disk = λ told t low high.
+      quiet_disk c.args.self.now.first.items c.args.self.now.calls.items c.begins.new.calls.items c.if-not-begins.ensures.refused t low high;
   said = λ told t low high. quiet_said c.args.self.now.calls.items c.begins.new.calls.items c.if-not-begins.ensures.refused t low high;
   input = record { taken = refl; left = refl };
 }

@@ -6,21 +6,31 @@ use Rattle.host_port.proofs.Replaying.{listed_in, after-push, said-push, disk_en
 use Rattle.host_port.proofs.memory.MemoryHostHost.sync.Goals as goal
 
 pub invariant_of-self-clause-file_is : goal.invariant_of-self-clause-file_is
-invariant_of-self-clause-file_is c = c.args.self.now.file_is ∙ ap (λ d. d.now) (sym (quiet_file c.args.self.now.first.items c.args.self.now.calls.items c.begins.new.calls.items c.if-not-begins.ensures.refused))
+invariant_of-self-clause-file_is c =
+    c.args.self.now.file_is
+    ∙ ap (λ d. d.now) (sym (quiet_file c.args.self.now.first.items c.args.self.now.calls.items c.begins.new.calls.items c.if-not-begins.ensures.refused))
 
 pub invariant_of-self-clause-said_is : goal.invariant_of-self-clause-said_is
-invariant_of-self-clause-said_is c = c.args.self.now.said_is ∙ sym (quiet_words c.args.self.now.calls.items c.begins.new.calls.items c.if-not-begins.ensures.refused)
+invariant_of-self-clause-said_is c =
+    c.args.self.now.said_is ∙ sym (quiet_words c.args.self.now.calls.items c.begins.new.calls.items c.if-not-begins.ensures.refused)
 
 pub returns-then-not-begins-clause-before_or_after : goal.returns-then-not-begins-clause-before_or_after
-returns-then-not-begins-clause-before_or_after c = λ told t low high. inl (quiet_disk c.args.self.now.first.items c.args.self.now.calls.items c.begins.new.calls.items c.if-not-begins.ensures.refused t low high)
+returns-then-not-begins-clause-before_or_after c =
+    λ told t low high. inl
+    (quiet_disk c.args.self.now.first.items c.args.self.now.calls.items c.begins.new.calls.items c.if-not-begins.ensures.refused t low high)
 
 pub returns-then-not-begins-clause-kept : goal.returns-then-not-begins-clause-kept
-returns-then-not-begins-clause-kept c = λ told t low high. (quiet_disk c.args.self.now.first.items c.args.self.now.calls.items c.begins.new.calls.items c.if-not-begins.ensures.refused t low high)
+returns-then-not-begins-clause-kept c =
+    λ told t low high. (quiet_disk c.args.self.now.first.items c.args.self.now.calls.items c.begins.new.calls.items c.if-not-begins.ensures.refused t
+    low high)
 
 pub invariant_of-self-else-not-note-clause-file_is : goal.invariant_of-self-else-not-note-clause-file_is
 invariant_of-self-else-not-note-clause-file_is c =
     let noted = c.if-not-note.ensures.noted ∙ ap (λ l. l ++ Sync ∷ []) c.if-not-begins.ensures.going_on.0 in
-    c.args.self.now.file_is ∙ ap (λ d. d.now) (sym (ap (after_calls (at_start c.args.self.now.first.items)) noted ∙ after-push (at_start c.args.self.now.first.items) c.args.self.now.calls.items Sync))
+    c.args.self.now.file_is
+    ∙ ap (λ d. d.now) (sym
+    (ap (after_calls (at_start c.args.self.now.first.items)) noted
+    ∙ after-push (at_start c.args.self.now.first.items) c.args.self.now.calls.items Sync))
 
 pub invariant_of-self-else-not-note-clause-said_is : goal.invariant_of-self-else-not-note-clause-said_is
 invariant_of-self-else-not-note-clause-said_is c =
@@ -40,7 +50,8 @@ returns-clause-stable c = λ told.
 pub returns-then-not-begins-clause-failed : goal.returns-then-not-begins-clause-failed
 returns-then-not-begins-clause-failed c = record {
   cause = inl (listed_in _ _ _ c.deref.ensures.value c.if-not-begins.ensures.listed);
-  disk = λ told t low high. quiet_disk c.args.self.now.first.items c.args.self.now.calls.items c.begins.new.calls.items c.if-not-begins.ensures.refused t low high;
+  disk = λ told t low high.
+      quiet_disk c.args.self.now.first.items c.args.self.now.calls.items c.begins.new.calls.items c.if-not-begins.ensures.refused t low high;
   said = λ told t low high. quiet_said c.args.self.now.calls.items c.begins.new.calls.items c.if-not-begins.ensures.refused t low high;
   input = record { taken = refl; left = refl };
 }

@@ -7,4 +7,6 @@ pub returns-in-None : goal.returns-in-None
 returns-in-None c = ap (λ o. unwrap_or o []) (read_attr c.self.inside.nodes c.args.self.now c.self.view_is c.args.e.now c.args.f None c.in-None.ensures)
 
 pub returns-in-Some : goal.returns-in-Some
-returns-in-Some c = c.find-in-Some.ensures ∙ ap (λ o. unwrap_or o []) (read_attr c.self.inside.nodes c.args.self.now c.self.view_is c.args.e.now c.args.f (Some c.in-Some.node.now) c.in-Some.ensures)
+returns-in-Some c = c.find-in-Some.ensures
+    ∙ ap (λ o. unwrap_or o [])
+    (read_attr c.self.inside.nodes c.args.self.now c.self.view_is c.args.e.now c.args.f (Some c.in-Some.node.now) c.in-Some.ensures)

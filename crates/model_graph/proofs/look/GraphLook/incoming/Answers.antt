@@ -10,9 +10,13 @@ use Rattle.model_graph.proofs.look.GraphLook.incoming.Goals as goal
 pub returns-in-None : goal.returns-in-None
 returns-in-None c =
     c.new.ensures ∙ ap (map arrived) (sym (no_entries attr_cmp))
-    ∙ incoming_are c.args.self.now.row empty c.args.b.now (λ a f. get-empty attr_cmp (a, f) ∙ read_into c.self.inside.nodes c.args.self.now c.self.view_is c.self.invariant.0 c.args.b.now None c.in-None.ensures a f)
+    ∙ incoming_are c.args.self.now.row empty c.args.b.now
+    (λ a f. get-empty attr_cmp (a, f)
+    ∙ read_into c.self.inside.nodes c.args.self.now c.self.view_is c.self.invariant.0 c.args.b.now None c.in-None.ensures a f)
 
 pub returns-in-Some : goal.returns-in-Some
 returns-in-Some c =
     subst (λ ts. IfOk c.list.result (λ l. l ≡ ts))
-    (incoming_are c.args.self.now.row c.in-Some.node.now.into c.args.b.now (λ a f. read_into c.self.inside.nodes c.args.self.now c.self.view_is c.self.invariant.0 c.args.b.now (Some c.in-Some.node.now) c.in-Some.ensures a f)) c.list.ensures
+    (incoming_are c.args.self.now.row c.in-Some.node.now.into c.args.b.now
+    (λ a f. read_into c.self.inside.nodes c.args.self.now c.self.view_is c.self.invariant.0 c.args.b.now
+    (Some c.in-Some.node.now) c.in-Some.ensures a f)) c.list.ensures

@@ -13,9 +13,13 @@ pub returns-in-None : goal.returns-in-None
 returns-in-None c =
     ap last_rank (
     ap (λ es. in_order entry_cmp (map ranked_entry es)) (sym (no_entries id_cmp))
-    ∙ children_are c.args.self.now.place c.args.self.now.prank (placed_at c.self.inside.nodes) empty c.args.place.now (places_are c.self.inside.nodes c.args.self.now c.self.view_is) (ranks_are c.self.inside.nodes c.args.self.now c.self.view_is) (λ x. c.in-None.ensures x ∙ c.self.invariant.1 c.args.place.now x))
+    ∙ children_are c.args.self.now.place c.args.self.now.prank (placed_at c.self.inside.nodes) empty c.args.place.now
+    (places_are c.self.inside.nodes c.args.self.now c.self.view_is) (ranks_are c.self.inside.nodes c.args.self.now c.self.view_is)
+    (λ x. c.in-None.ensures x ∙ c.self.invariant.1 c.args.place.now x))
 
 pub returns-in-Some : goal.returns-in-Some
 returns-in-Some c =
     c.last.ensures
-    ∙ ap last_rank (children_are c.args.self.now.place c.args.self.now.prank (placed_at c.self.inside.nodes) c.in-Some.group.now c.args.place.now (places_are c.self.inside.nodes c.args.self.now c.self.view_is) (ranks_are c.self.inside.nodes c.args.self.now c.self.view_is) (λ x. c.in-Some.ensures x ∙ c.self.invariant.1 c.args.place.now x))
+    ∙ ap last_rank (children_are c.args.self.now.place c.args.self.now.prank (placed_at c.self.inside.nodes) c.in-Some.group.now c.args.place.now
+    (places_are c.self.inside.nodes c.args.self.now c.self.view_is) (ranks_are c.self.inside.nodes c.args.self.now c.self.view_is)
+    (λ x. c.in-Some.ensures x ∙ c.self.invariant.1 c.args.place.now x))

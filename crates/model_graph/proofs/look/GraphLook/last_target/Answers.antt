@@ -12,9 +12,11 @@ pub returns-in-None : goal.returns-in-None
 returns-in-None c =
     ap last_rank (
     ap (λ es. in_order entry_cmp (map ranked_entry es)) (sym (no_entries id_cmp))
-    ∙ targets_are c.args.self.now.row empty c.args.a.now c.args.f (λ b. c.in-None.ensures b ∙ read_row c.self.inside.nodes c.args.self.now c.self.view_is c.args.a.now c.args.f b))
+    ∙ targets_are c.args.self.now.row empty c.args.a.now c.args.f
+    (λ b. c.in-None.ensures b ∙ read_row c.self.inside.nodes c.args.self.now c.self.view_is c.args.a.now c.args.f b))
 
 pub returns-in-Some : goal.returns-in-Some
 returns-in-Some c =
     c.last.ensures
-    ∙ ap last_rank (targets_are c.args.self.now.row c.in-Some.group.now c.args.a.now c.args.f (λ b. c.in-Some.ensures b ∙ read_row c.self.inside.nodes c.args.self.now c.self.view_is c.args.a.now c.args.f b))
+    ∙ ap last_rank (targets_are c.args.self.now.row c.in-Some.group.now c.args.a.now c.args.f
+    (λ b. c.in-Some.ensures b ∙ read_row c.self.inside.nodes c.args.self.now c.self.view_is c.args.a.now c.args.f b))

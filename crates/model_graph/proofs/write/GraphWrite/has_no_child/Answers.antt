@@ -6,7 +6,11 @@ use Rattle.model_graph.proofs.Emptied.{no_children}
 use Rattle.model_graph.proofs.write.GraphWrite.has_no_child.Goals as goal
 
 pub returns-in-None : goal.returns-in-None
-returns-in-None c = ap (bare_part (λ (n : Node). n.inside)) c.in-None.ensures ∙ no_children c.self.inside.roots c.self.inside.nodes c.self.invariant.1 c.args.e.now ∙ ap (λ (s : State). nat_eq (inner_count s c.args.e.now) 0) c.self.view_is
+returns-in-None c = ap (bare_part (λ (n : Node). n.inside)) c.in-None.ensures
+    ∙ no_children c.self.inside.roots c.self.inside.nodes c.self.invariant.1 c.args.e.now
+    ∙ ap (λ (s : State). nat_eq (inner_count s c.args.e.now) 0) c.self.view_is
 
 pub returns-in-Some : goal.returns-in-Some
-returns-in-Some c = c.is_empty.ensures ∙ ap (bare_part (λ (n : Node). n.inside)) c.in-Some.ensures ∙ no_children c.self.inside.roots c.self.inside.nodes c.self.invariant.1 c.args.e.now ∙ ap (λ (s : State). nat_eq (inner_count s c.args.e.now) 0) c.self.view_is
+returns-in-Some c = c.is_empty.ensures ∙ ap (bare_part (λ (n : Node). n.inside)) c.in-Some.ensures
+    ∙ no_children c.self.inside.roots c.self.inside.nodes c.self.invariant.1 c.args.e.now
+    ∙ ap (λ (s : State). nat_eq (inner_count s c.args.e.now) 0) c.self.view_is

@@ -12,12 +12,14 @@ pub drop_attr-requires : goal.drop_attr-requires
 drop_attr-requires c = live_there c.self.inside.nodes c.args.self.now c.args.e.now c.self.view_is c.requires
 
 pub invariant_of-self : goal.invariant_of-self
-invariant_of-self c = attr_kept c.self.inside.roots c.self.inside.nodes c.drop_attr.new.nodes c.args.self.now c.args.e.now c.args.f None c.self.view_is c.drop_attr.ensures c.self.invariant
+invariant_of-self c = attr_kept c.self.inside.roots c.self.inside.nodes c.drop_attr.new.nodes c.args.self.now c.args.e.now c.args.f None
+    c.self.view_is c.drop_attr.ensures c.self.invariant
 
 pub returns-then-len-eq0-clause-ok : goal.returns-then-len-eq0-clause-ok
 returns-then-len-eq0-clause-ok c =
     attr_state c.self.inside.roots c.self.inside.nodes c.drop_attr.new.nodes c.args.self.now c.args.e.now c.args.f None c.self.view_is c.drop_attr.ensures
-    ∙ ap (λ v. record c.args.self.now { attr = set c.args.self.now.attr (c.args.e.now, c.args.f) v }) (entry_none c.args.values (sym c.len.ensures ∙ c.if-len-eq0.true))
+    ∙ ap (λ v. record c.args.self.now { attr = set c.args.self.now.attr (c.args.e.now, c.args.f) v })
+    (entry_none c.args.values (sym c.len.ensures ∙ c.if-len-eq0.true))
 
 pub put_attr-requires : goal.put_attr-requires
 put_attr-requires c = live_there c.self.inside.nodes c.args.self.now c.args.e.now c.self.view_is c.requires
@@ -25,11 +27,13 @@ put_attr-requires c = live_there c.self.inside.nodes c.args.self.now c.args.e.no
 pub invariant_of-self-2 : goal.invariant_of-self-2
 invariant_of-self-2 c =
     by_result (AreKept c.self.inside.roots c.put_attr.new.nodes) c.put_attr.result c.put_attr.ensures.ok c.put_attr.ensures.err
-    (λ w. attr_kept c.self.inside.roots c.self.inside.nodes c.put_attr.new.nodes c.args.self.now c.args.e.now c.args.f (Some c.args.values) c.self.view_is w c.self.invariant)
+    (λ w. attr_kept c.self.inside.roots c.self.inside.nodes c.put_attr.new.nodes c.args.self.now c.args.e.now c.args.f
+    (Some c.args.values) c.self.view_is w c.self.invariant)
     (λ is. subst (λ (t : Elements). AreKept c.self.inside.roots t) (sym is) c.self.invariant)
 
 pub returns-clause-ok : goal.returns-clause-ok
 returns-clause-ok c =
     on_ok_weaker c.put_attr.result (λ w.
     attr_state c.self.inside.roots c.self.inside.nodes c.put_attr.new.nodes c.args.self.now c.args.e.now c.args.f (Some c.args.values) c.self.view_is w
-    ∙ ap (λ v. record c.args.self.now { attr = set c.args.self.now.attr (c.args.e.now, c.args.f) v }) (entry_some c.args.values (λ h. c.if-len-eq0.false (c.len.ensures ∙ h)))) c.put_attr.ensures.ok
+    ∙ ap (λ v. record c.args.self.now { attr = set c.args.self.now.attr (c.args.e.now, c.args.f) v })
+    (entry_some c.args.values (λ h. c.if-len-eq0.false (c.len.ensures ∙ h)))) c.put_attr.ensures.ok

@@ -11,7 +11,8 @@ pub drop_attr-requires : goal.drop_attr-requires
 drop_attr-requires c = live_there c.self.inside.nodes c.args.self.now c.args.e.now c.self.view_is c.requires.live
 
 pub invariant_of-self : goal.invariant_of-self
-invariant_of-self c = attr_kept c.self.inside.roots c.self.inside.nodes c.drop_attr.new.nodes c.args.self.now c.args.e.now c.args.f None c.self.view_is c.drop_attr.ensures c.self.invariant
+invariant_of-self c = attr_kept c.self.inside.roots c.self.inside.nodes c.drop_attr.new.nodes c.args.self.now c.args.e.now c.args.f None
+    c.self.view_is c.drop_attr.ensures c.self.invariant
 
 pub returns-then-attr-eq1-clause-ok : goal.returns-then-attr-eq1-clause-ok
 returns-then-attr-eq1-clause-ok c =

@@ -10,4 +10,5 @@ returns-in-Some c =
 
 pub returns-in-None : goal.returns-in-None
 returns-in-None c =
-    c.index_in.ensures ∙ ap (index_in c.args.n) (c.targets_at.ensures ∙ ap (targets_at c.args.feature) (c.refs_at.ensures ∙ ap (λ rows. refs_at rows c.args.b) c.self.view_is))
+    c.index_in.ensures ∙ ap (index_in c.args.n)
+    (c.targets_at.ensures ∙ ap (targets_at c.args.feature) (c.refs_at.ensures ∙ ap (λ rows. refs_at rows c.args.b) c.self.view_is))

@@ -17,7 +17,8 @@ unreachable-requires g c =
     let a = c.self.inside in
     let es = named a.ids.entries in
     let e = c.args.e.now in
-    present es a.slots c.self.invariant e (subst (λ m. IsSome (get m e)) (sym c.self.view_is) c.requires) (lookup-text a.ids.entries e c.as_str.result.now c.as_str.ensures.bytes _ c.get.ensures.value ∙ ap option_copied c.in-None.is)
+    present es a.slots c.self.invariant e (subst (λ m. IsSome (get m e)) (sym c.self.view_is) c.requires)
+    (lookup-text a.ids.entries e c.as_str.result.now c.as_str.ensures.bytes _ c.get.ensures.value ∙ ap option_copied c.in-None.is)
 
 pub index_mut-requires : goal.index_mut-requires
 index_mut-requires g c =
@@ -25,7 +26,8 @@ index_mut-requires g c =
     let es = named a.ids.entries in
     let e = c.args.e.now in
     let at = c.in-Some.at.now in
-    let is : lookup (text_eq e) es ≡ Some at = lookup-text a.ids.entries e c.as_str.result.now c.as_str.ensures.bytes _ c.get.ensures.value ∙ ap option_copied c.in-Some.is in
+    let is : lookup (text_eq e) es ≡ Some at =
+    lookup-text a.ids.entries e c.as_str.result.now c.as_str.ensures.bytes _ c.get.ensures.value ∙ ap option_copied c.in-Some.is in
     let p = c.self.invariant e at is in
     contains (slab.get a.slots at) (e, p.0) p.1
 
@@ -35,7 +37,8 @@ invariant_of-self-lent g c w =
     let es = named a.ids.entries in
     let e = c.args.e.now in
     let at = c.in-Some.at.now in
-    let is : lookup (text_eq e) es ≡ Some at = lookup-text a.ids.entries e c.as_str.result.now c.as_str.ensures.bytes _ c.get.ensures.value ∙ ap option_copied c.in-Some.is in
+    let is : lookup (text_eq e) es ≡ Some at =
+    lookup-text a.ids.entries e c.as_str.result.now c.as_str.ensures.bytes _ c.get.ensures.value ∙ ap option_copied c.in-Some.is in
     written_tied es a.slots e c.self.invariant at c.index_mut.result.now w is c.index_mut.ensures.value
 
 pub returns : goal.returns
@@ -45,7 +48,8 @@ returns g c =
     let e = c.args.e.now in
     let at = c.in-Some.at.now in
     let slot = c.index_mut.result.now in
-    let is : lookup (text_eq e) es ≡ Some at = lookup-text a.ids.entries e c.as_str.result.now c.as_str.ensures.bytes _ c.get.ensures.value ∙ ap option_copied c.in-Some.is in (
+    let is : lookup (text_eq e) es ≡ Some at =
+    lookup-text a.ids.entries e c.as_str.result.now c.as_str.ensures.bytes _ c.get.ensures.value ∙ ap option_copied c.in-Some.is in (
       (refl, λ w. written es a.slots e c.self.invariant at slot w is c.index_mut.ensures.value ∙ ap (λ m. set m e (Some w)) c.self.view_is),
       record {
         writes_back = tt;

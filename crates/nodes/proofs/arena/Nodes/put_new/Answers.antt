@@ -20,7 +20,8 @@ invariant_of-self-2 g c =
     let same = c.insert_reserved.ensures.key ∙ sym c.vacant_key-at.ensures.value in
     added_tied (named a.ids.entries) s e c.self.invariant (named c.insert.new.self.entries) t c.insert_reserved.result c.args.value
     (ap (λ s. slab.get s c.insert_reserved.result) (sym kept) ∙ c.insert_reserved.ensures.was_vacant)
-    (λ q. updates-text a.ids c.insert.new.self e _ (c.in_ok-text.ensures.ok ∙ c.as_str.ensures.bytes) _ c.in_ok-insert.ensures.updates q ∙ ap (λ i. cond (text_eq e q) (Some i) (lookup (text_eq q) (named a.ids.entries))) (sym same))
+    (λ q. updates-text a.ids c.insert.new.self e _ (c.in_ok-text.ensures.ok ∙ c.as_str.ensures.bytes) _ c.in_ok-insert.ensures.updates q
+    ∙ ap (λ i. cond (text_eq e q) (Some i) (lookup (text_eq q) (named a.ids.entries))) (sym same))
     c.insert_reserved.ensures.updates.changed
     (λ i differ. c.insert_reserved.ensures.updates.others i differ ∙ ap (λ s. slab.get s i) kept)
 
@@ -34,7 +35,8 @@ returns-clause-ok g c =
     let same = c.insert_reserved.ensures.key ∙ sym c.vacant_key-at.ensures.value in
     added (named a.ids.entries) s e c.self.invariant (named c.insert.new.self.entries) t c.insert_reserved.result c.args.value
     (ap (λ s. slab.get s c.insert_reserved.result) (sym kept) ∙ c.insert_reserved.ensures.was_vacant)
-    (λ q. updates-text a.ids c.insert.new.self e _ (c.in_ok-text.ensures.ok ∙ c.as_str.ensures.bytes) _ c.in_ok-insert.ensures.updates q ∙ ap (λ i. cond (text_eq e q) (Some i) (lookup (text_eq q) (named a.ids.entries))) (sym same))
+    (λ q. updates-text a.ids c.insert.new.self e _ (c.in_ok-text.ensures.ok ∙ c.as_str.ensures.bytes) _ c.in_ok-insert.ensures.updates q
+    ∙ ap (λ i. cond (text_eq e q) (Some i) (lookup (text_eq q) (named a.ids.entries))) (sym same))
     c.insert_reserved.ensures.updates.changed
     (λ i differ. c.insert_reserved.ensures.updates.others i differ ∙ ap (λ s. slab.get s i) kept)
     ∙ ap (λ m. set m e (Some c.args.value)) c.self.view_is

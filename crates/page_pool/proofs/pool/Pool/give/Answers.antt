@@ -3,13 +3,22 @@ use Rattle.page_pool.proofs.Steps.{out_within, has_room, given_sound, is_given}
 use Rattle.page_pool.proofs.pool.Pool.give.Goals as goal
 
 pub index_mut-requires : goal.index_mut-requires
-index_mut-requires c = let w = out_within c.args.self.now c.self.inside.slots.items c.args.frame c.frame.inside.number c.self.view_is c.frame.view_is c.requires.out in omega (arith, w)
+index_mut-requires c = let w =
+    out_within c.args.self.now c.self.inside.slots.items c.args.frame c.frame.inside.number c.self.view_is c.frame.view_is c.requires.out
+    in omega (arith, w)
 
 pub push_reserved-requires : goal.push_reserved-requires
-push_reserved-requires c = let r = has_room c.args.self.now c.self.inside.slots.items c.args.frame c.frame.inside.number c.self.view_is c.frame.view_is c.requires.out c.self.inside.free.items (vec_capacity c.self.inside.free) c.self.invariant in omega (arith, r)
+push_reserved-requires c = let r =
+    has_room c.args.self.now c.self.inside.slots.items c.args.frame c.frame.inside.number c.self.view_is c.frame.view_is c.requires.out
+    c.self.inside.free.items (vec_capacity c.self.inside.free) c.self.invariant in omega (arith, r)
 
 pub invariant_of-self : goal.invariant_of-self
-invariant_of-self c = given_sound c.args.self.now c.self.inside.slots.items c.args.frame c.frame.inside.number c.self.view_is c.frame.view_is c.requires.out c.self.inside.free.items c.push_reserved.new.self.items (vec_capacity c.self.inside.free) (vec_capacity c.push_reserved.new.self) c.self.invariant c.push_reserved.ensures.items c.push_reserved.ensures.capacity
+invariant_of-self c = given_sound c.args.self.now c.self.inside.slots.items c.args.frame c.frame.inside.number c.self.view_is c.frame.view_is
+    c.requires.out c.self.inside.free.items c.push_reserved.new.self.items (vec_capacity c.self.inside.free)
+    (vec_capacity c.push_reserved.new.self) c.self.invariant c.push_reserved.ensures.items c.push_reserved.ensures.capacity
 
 pub returns : goal.returns
-returns c = record { given = is_given c.args.self.now c.self.inside.slots.items c.args.frame c.frame.inside.number c.self.view_is c.frame.view_is c.requires.out }
+returns c = record {
+  given =
+      is_given c.args.self.now c.self.inside.slots.items c.args.frame c.frame.inside.number c.self.view_is c.frame.view_is c.requires.out;
+}

@@ -7,7 +7,8 @@ pub overflow_sub-result : goal.overflow_sub-result
 overflow_sub-result c = let n = counted c.self.inside.slots.items in omega (arith, n, c.self.invariant.count)
 
 pub returns-clause-taken : goal.returns-clause-taken
-returns-clause-taken c = let n = counted c.self.inside.slots.items in let v = ap (λ (l : Frames). out_of l) c.self.view_is in omega (arith, n, v, c.self.invariant.count)
+returns-clause-taken c = let n = counted c.self.inside.slots.items in let v = ap (λ (l : Frames). out_of l) c.self.view_is
+    in omega (arith, n, v, c.self.invariant.count)
 
 pub returns-clause-limit : goal.returns-clause-limit
 returns-clause-limit c = omega (arith, c.self.invariant.few)

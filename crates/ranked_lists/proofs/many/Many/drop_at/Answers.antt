@@ -20,10 +20,12 @@ invariant_of-self c =
     let es = named a.by_id.entries in
     let is = lookup-text a.by_id.entries e c.as_str.result.now c.as_str.ensures.bytes _ c.swap_remove.ensures.value ∙ c.in-Some.is in
     let entry = table_entry es (rank_map keys) c.self.invariant.1 e c.in-Some.entry is in
-    let after = set_went keys c.self.invariant.0 e c.remove.new.self.keys c.in-Some.entry.rank entry.1 (c.remove.ensures.keys ∙ ap (λ (y : Entry). remove_key (is_at (entry_cmp y)) keys) entry.0) c.remove.ensures.ordered in (
+    let after = set_went keys c.self.invariant.0 e c.remove.new.self.keys c.in-Some.entry.rank entry.1
+    (c.remove.ensures.keys ∙ ap (λ (y : Entry). remove_key (is_at (entry_cmp y)) keys) entry.0) c.remove.ensures.ordered in (
       after.0,
       subst (IsTableOf (named c.swap_remove.new.self.entries)) (sym after.1)
-          (table_set es (named c.swap_remove.new.self.entries) (rank_map keys) e None c.self.invariant.1 (updates-text a.by_id c.swap_remove.new.self e c.as_str.result.now c.as_str.ensures.bytes None c.swap_remove.ensures.updates)),
+          (table_set es (named c.swap_remove.new.self.entries) (rank_map keys) e None c.self.invariant.1
+          (updates-text a.by_id c.swap_remove.new.self e c.as_str.result.now c.as_str.ensures.bytes None c.swap_remove.ensures.updates)),
     )
 
 pub returns-in-Some : goal.returns-in-Some
@@ -34,7 +36,8 @@ returns-in-Some c =
     let es = named a.by_id.entries in
     let is = lookup-text a.by_id.entries e c.as_str.result.now c.as_str.ensures.bytes _ c.swap_remove.ensures.value ∙ c.in-Some.is in
     let entry = table_entry es (rank_map keys) c.self.invariant.1 e c.in-Some.entry is in
-    let after = set_went keys c.self.invariant.0 e c.remove.new.self.keys c.in-Some.entry.rank entry.1 (c.remove.ensures.keys ∙ ap (λ (y : Entry). remove_key (is_at (entry_cmp y)) keys) entry.0) c.remove.ensures.ordered in
+    let after = set_went keys c.self.invariant.0 e c.remove.new.self.keys c.in-Some.entry.rank entry.1
+    (c.remove.ensures.keys ∙ ap (λ (y : Entry). remove_key (is_at (entry_cmp y)) keys) entry.0) c.remove.ensures.ordered in
     after.1 ∙ ap (λ m. set m e None) c.self.view_is
 
 pub returns-in_default : goal.returns-in_default

@@ -11,5 +11,6 @@ pub invariant_of-result : goal.invariant_of-result
 invariant_of-result c = (
   subst AreRanked (sym c.new-2.ensures.empty) none_ranked,
   λ q.
-      ap (λ es. lookup (text_eq q) (named es)) c.new.ensures.empty ∙ ap (option_map (entry_with q)) (sym (ap (λ ks. get (rank_map ks) q) c.new-2.ensures.empty ∙ get-ranks [] q)),
+      ap (λ es. lookup (text_eq q) (named es)) c.new.ensures.empty
+      ∙ ap (option_map (entry_with q)) (sym (ap (λ ks. get (rank_map ks) q) c.new-2.ensures.empty ∙ get-ranks [] q)),
 )

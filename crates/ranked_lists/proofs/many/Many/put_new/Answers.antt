@@ -24,7 +24,8 @@ invariant_of-self-in-Ok c =
       after.0,
       subst (IsTableOf (named c.insert.new.self.entries)) (sym after.1)
           (table_set es (named c.insert.new.self.entries) (rank_map keys) e (Some rank) c.self.invariant.1
-          (λ q. updates-text a.by_id c.insert.new.self e _ (c.in_ok-text.ensures.ok ∙ c.as_str.ensures.bytes) _ c.in_ok-insert.ensures.updates q ∙ ap (λ z. cond (text_eq e q) (Some (entry_with z rank)) (lookup (text_eq q) es)) c.in_ok-id.ensures)),
+          (λ q. updates-text a.by_id c.insert.new.self e _ (c.in_ok-text.ensures.ok ∙ c.as_str.ensures.bytes) _ c.in_ok-insert.ensures.updates q
+          ∙ ap (λ z. cond (text_eq e q) (Some (entry_with z rank)) (lookup (text_eq q) es)) c.in_ok-id.ensures)),
     )
 
 pub invariant_of-self-in-Err : goal.invariant_of-self-in-Err
@@ -40,9 +41,11 @@ invariant_of-self-in-Err c =
     let none = ap (λ m. get m e) c.self.view_is ∙ c.requires in
     let still = c.in-Err.ensures.err in
     let wrote = table_set es fs m e (Some rank) c.self.invariant.1
-    (λ q. updates-text a.by_id c.insert.new.self e _ (c.in_ok-text.ensures.ok ∙ c.as_str.ensures.bytes) _ c.in_ok-insert.ensures.updates q ∙ ap (λ z. cond (text_eq e q) (Some (entry_with z rank)) (lookup (text_eq q) es)) c.in_ok-id.ensures) in
+    (λ q. updates-text a.by_id c.insert.new.self e _ (c.in_ok-text.ensures.ok ∙ c.as_str.ensures.bytes) _ c.in_ok-insert.ensures.updates q
+    ∙ ap (λ z. cond (text_eq e q) (Some (entry_with z rank)) (lookup (text_eq q) es)) c.in_ok-id.ensures) in
     let text = c.as_str-in-Err.ensures.bytes ∙ ap (λ (x : Entry). x.id) c.in-Err.ensures.value_returned in
-    let back = table_set fs gs (set m e (Some rank)) e None wrote (updates-text c.insert.new.self c.swap_remove.new.self e c.as_str-in-Err.result.now text None c.swap_remove.ensures.updates) in
+    let back = table_set fs gs (set m e (Some rank)) e None wrote
+    (updates-text c.insert.new.self c.swap_remove.new.self e c.as_str-in-Err.result.now text None c.swap_remove.ensures.updates) in
     let same = set_back id_order m e None (Some rank) none in
     (subst AreRanked (sym still) c.self.invariant.0, subst (IsTableOf gs) (same ∙ ap rank_map (sym still)) back)
 

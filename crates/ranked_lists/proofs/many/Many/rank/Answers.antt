@@ -16,4 +16,5 @@ pub returns-in-Some : goal.returns-in-Some
 returns-in-Some c =
     let a = c.self.inside in
     let is = lookup-text a.by_id.entries c.args.e.now c.as_str.result.now c.as_str.ensures.bytes _ c.get.ensures.value ∙ ap option_copied c.in-Some.is in
-    table_rank (named a.by_id.entries) (rank_map a.by_rank.keys) c.self.invariant.1 c.args.e.now (Some c.in-Some.entry.now) is ∙ ap (λ m. get m c.args.e.now) c.self.view_is
+    table_rank (named a.by_id.entries) (rank_map a.by_rank.keys) c.self.invariant.1 c.args.e.now (Some c.in-Some.entry.now) is
+    ∙ ap (λ m. get m c.args.e.now) c.self.view_is

@@ -29,7 +29,8 @@ invariant_of-self-2 c =
     let os = c.insert.new.self.keys in
     let some = ap (λ m. get m e) c.self.view_is ∙ c.requires in
     let after = set_moved keys c.self.invariant.0 e os c.remove.new.self.keys c.args.old c.args.rank some c.if-old-rank.false c.in_ok-insert.ensures.keys
-    (c.in_ok-insert.ensures.updates.0 (entry_with e c.args.old) ∙ still_in _ _ (is_in keys (rank_map keys) (holds keys (rank_map keys) c.self.invariant.0) e c.args.old some))
+    (c.in_ok-insert.ensures.updates.0 (entry_with e c.args.old)
+    ∙ still_in _ _ (is_in keys (rank_map keys) (holds keys (rank_map keys) c.self.invariant.0) e c.args.old some))
     (c.remove.ensures.keys ∙ ap (λ (z : IdBytes). remove_key (is_at (entry_cmp (entry_with z c.args.old))) os) c.in_ok-copy.ensures) c.remove.ensures.ordered in
     let m = rank_map keys in
     let fs = named c.write_rank.new.by_id.entries in
@@ -45,6 +46,7 @@ returns-clause-ok c =
     let os = c.insert.new.self.keys in
     let some = ap (λ m. get m e) c.self.view_is ∙ c.requires in
     let after = set_moved keys c.self.invariant.0 e os c.remove.new.self.keys c.args.old c.args.rank some c.if-old-rank.false c.in_ok-insert.ensures.keys
-    (c.in_ok-insert.ensures.updates.0 (entry_with e c.args.old) ∙ still_in _ _ (is_in keys (rank_map keys) (holds keys (rank_map keys) c.self.invariant.0) e c.args.old some))
+    (c.in_ok-insert.ensures.updates.0 (entry_with e c.args.old)
+    ∙ still_in _ _ (is_in keys (rank_map keys) (holds keys (rank_map keys) c.self.invariant.0) e c.args.old some))
     (c.remove.ensures.keys ∙ ap (λ (z : IdBytes). remove_key (is_at (entry_cmp (entry_with z c.args.old))) os) c.in_ok-copy.ensures) c.remove.ensures.ordered in
     after.1 ∙ ap (λ m. set m e (Some c.args.rank)) c.self.view_is

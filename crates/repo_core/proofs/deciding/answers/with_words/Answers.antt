@@ -6,4 +6,5 @@ use Rattle.repo_core.proofs.deciding.answers.with_words.Goals as goal
 
 pub returns-in-Ok-clause-decision : goal.returns-in-Ok-clause-decision
 returns-in-Ok-clause-decision c = λ x is.
-    subst (λ (y : List ℕ). IfOk c.with_room.result (λ d. seen d ≡ with_room c.args.repo.now c.args.lines y c.args.event)) (subst (λ r. IfOk r (λ w. w ≡ x)) c.in-Ok.is is) c.with_room.ensures.decision
+    subst (λ (y : List ℕ). IfOk c.with_room.result (λ d. seen d ≡ with_room c.args.repo.now c.args.lines y c.args.event))
+    (subst (λ r. IfOk r (λ w. w ≡ x)) c.in-Ok.is is) c.with_room.ensures.decision

@@ -15,7 +15,8 @@ stop_of-requires-clause-there c = taken_there (workspace_of c.args.repo.now c.ar
 
 pub with_operations-requires : goal.with_operations-requires
 with_operations-requires c = record {
-  could = could_apply c.args.repo.now c.stop_of.new.repo c.args.ws c.args.«package» c.stop_of.ensures.same c.requires.begun c.requires.takes (subst (IsStop c.args.repo.now c.args.ws c.args.«package») c.in-Ok-None.field-0-is c.in-Ok-None.ensures.stop);
+  could = could_apply c.args.repo.now c.stop_of.new.repo c.args.ws c.args.«package» c.stop_of.ensures.same c.requires.begun c.requires.takes
+      (subst (IsStop c.args.repo.now c.args.ws c.args.«package») c.in-Ok-None.field-0-is c.in-Ok-None.ensures.stop);
 }
 
 pub returns-in-Ok-None-clause-decision : goal.returns-in-Ok-None-clause-decision
@@ -23,5 +24,6 @@ returns-in-Ok-None-clause-decision c = λ meta w begun there.
     let s = c.args.repo.now in
     let stop = subst (IsStop s c.args.ws c.args.«package») c.in-Ok-None.field-0-is c.in-Ok-None.ensures.stop meta w begun there in
     subst (λ (d : plain.Decision). IfOk c.with_operations.result (λ r. seen r ≡ d))
-    (ap (λ (t : State). with_operations t c.args.ws c.args.«package») c.stop_of.ensures.same ∙ none_applied s c.args.ws c.args.«package» (first_stop meta (model_of meta s.history w) (steps_all c.args.«package»)) stop)
+    (ap (λ (t : State). with_operations t c.args.ws c.args.«package») c.stop_of.ensures.same
+    ∙ none_applied s c.args.ws c.args.«package» (first_stop meta (model_of meta s.history w) (steps_all c.args.«package»)) stop)
     c.with_operations.ensures.decision

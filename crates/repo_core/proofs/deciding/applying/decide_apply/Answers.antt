@@ -19,7 +19,8 @@ returns-in-Ok-clause-decision c = λ meta begun.
     let w = plain_of c.in-Some.workspace.now in
     let there = sym c.in-Some.ensures.found in
     subst (λ (y : plain.Decision). IfOk c.apply_package.result (λ d. seen d ≡ y))
-    (ap (apply_read s meta c.args.ws w) (sym c.in-Ok.ensures.read) ∙ apply_goes s meta c.args.ws w c.args.bytes.now there (sym c.is_open.ensures.open ∙ c.if-is_open.false))
+    (ap (apply_read s meta c.args.ws w) (sym c.in-Ok.ensures.read)
+    ∙ apply_goes s meta c.args.ws w c.args.bytes.now there (sym c.is_open.ensures.open ∙ c.if-is_open.false))
     (c.apply_package.ensures.decision meta w begun there)
 
 pub returns-in-Err-clause-decision : goal.returns-in-Err-clause-decision

@@ -26,7 +26,10 @@ with_operations-requires c =
     ∙ ap (λ os. first_interfering meta g.versions os (path_after g v w.base)) at
     ∙ ap (first_interfering meta g.versions operations) (sym (c.as_slice.ensures ∙ c.in_ok-later.ensures.path))
     ∙ sym c.in_ok-found.ensures.first ∙ none_of c.in_ok-found.found (sym c.is_some.ensures ∙ c.if-is_some.false) in
-    let apart = ap (λ os. have_pair meta os w.operations) here ∙ ap (have_pair meta operations) (sym (c.in_ok-local.ensures.copied ∙ c.operations.ensures)) ∙ sym c.in_ok-have_pair.ensures.found ∙ c.if-branch.false in
+    let apart = ap (λ os. have_pair meta os w.operations) here
+    ∙ ap (have_pair meta operations) (sym (c.in_ok-local.ensures.copied ∙ c.operations.ensures)) ∙ sym c.in_ok-have_pair.ensures.found
+    ∙ c.if-branch.false in
     record {
-      could = revert_could s meta c.args.ws v w c.orderly.ensures c.requires.meta c.requires.there c.requires.closed c.requires.on_path free apart c.in_ok-reversal.reversal (c.in_ok-reversal.ensures.reversed ∙ ap rev_package (sym here));
+      could = revert_could s meta c.args.ws v w c.orderly.ensures c.requires.meta c.requires.there c.requires.closed c.requires.on_path free apart
+          c.in_ok-reversal.reversal (c.in_ok-reversal.ensures.reversed ∙ ap rev_package (sym here));
     }

@@ -6,7 +6,8 @@ use Rattle.model_state.specs.State as models
 use Rattle.repo_core.proofs.deciding.applying.stop_of.Goals as goal
 
 pub stop_on-requires-clause-model : goal.stop_on-requires-clause-model
-stop_on-requires-clause-model c = subst (λ (s : State). IsWorkingModel s c.args.ws c.in_ok-model.model) (sym c.take_model.ensures.same) c.in_ok-model.ensures.model
+stop_on-requires-clause-model c =
+    subst (λ (s : State). IsWorkingModel s c.args.ws c.in_ok-model.model) (sym c.take_model.ensures.same) c.in_ok-model.ensures.model
 
 pub keep_model-requires-clause-model : goal.keep_model-requires-clause-model
 keep_model-requires-clause-model c =

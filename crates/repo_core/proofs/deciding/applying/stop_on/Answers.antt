@@ -2,8 +2,10 @@ use Rattle.repo_core.proofs.Applied.{model_good, stops_by}
 use Rattle.repo_core.proofs.deciding.applying.stop_on.Goals as goal
 
 pub stop_in-requires-clause-good : goal.stop_in-requires-clause-good
-stop_in-requires-clause-good c = model_good c.args.repo.now c.args._ws c.in-Some.begun.now.meta c.args.model.now c.in-Some.ensures.meta c.requires.there c.requires.model
+stop_in-requires-clause-good c =
+    model_good c.args.repo.now c.args._ws c.in-Some.begun.now.meta c.args.model.now c.in-Some.ensures.meta c.requires.there c.requires.model
 
 pub returns-clause-stop : goal.returns-clause-stop
 returns-clause-stop c =
-    stops_by c.args.repo.now c.args._ws c.in-Some.begun.now.meta c.args.model.now c.args.«package».now c.as_slice.result.now c.stop_in.result c.in-Some.ensures.meta c.requires.model c.as_slice.ensures c.stop_in.ensures.stop
+    stops_by c.args.repo.now c.args._ws c.in-Some.begun.now.meta c.args.model.now c.args.«package».now c.as_slice.result.now c.stop_in.result
+    c.in-Some.ensures.meta c.requires.model c.as_slice.ensures c.stop_in.ensures.stop

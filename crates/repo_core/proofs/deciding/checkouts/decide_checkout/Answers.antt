@@ -8,8 +8,10 @@ pub check_out-requires-clause-could : goal.check_out-requires-clause-could
 check_out-requires-clause-could c =
     let found = c.in-Ok.found in
     let back = sym c.requires.history in
-    checkout_could c.args.repo.now c.args.begun.now.meta c.args.spec.now found c.requires.meta (subst (λ (h : History). named h c.args.spec.now ≡ Ok found) back (sym c.in-Ok.ensures.found))
-    (subst (λ (h : History). found.version < length h.versions) back c.in-Ok.ensures.version) (subst (λ (h : History). found.branch < length h.branches) back c.in-Ok.ensures.branch)
+    checkout_could c.args.repo.now c.args.begun.now.meta c.args.spec.now found c.requires.meta
+    (subst (λ (h : History). named h c.args.spec.now ≡ Ok found) back (sym c.in-Ok.ensures.found))
+    (subst (λ (h : History). found.version < length h.versions) back c.in-Ok.ensures.version)
+    (subst (λ (h : History). found.branch < length h.branches) back c.in-Ok.ensures.branch)
 
 pub text_of-requires-clause-there : goal.text_of-requires-clause-there
 text_of-requires-clause-there c = subst (λ (h : History). c.in-Ok.found.version < length h.versions) (sym c.requires.history) c.in-Ok.ensures.version

@@ -10,4 +10,7 @@ head-head-requires c =
     let s = c.args.repo.now in
     let meta = c.args.begun.now.meta in
     let w = plain_of c.args.workspace.now in
-    record { there = subst (λ (h : History). w.branch < length h.branches) c.requires.history (workspaces_stand s meta w (is_there s meta c.args.ws w c.orderly.ensures c.requires.meta c.requires.there)).branch }
+    record {
+      there = subst (λ (h : History). w.branch < length h.branches) c.requires.history
+          (workspaces_stand s meta w (is_there s meta c.args.ws w c.orderly.ensures c.requires.meta c.requires.there)).branch;
+    }

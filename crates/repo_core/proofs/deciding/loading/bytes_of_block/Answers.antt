@@ -9,4 +9,5 @@ returns-in-None c = sym (no_line c.args.block.now (c.in-None.ensures.byte (omega
 pub returns-in-Some : goal.returns-in-Some
 returns-in-Some c =
     let cut = c.in-Some.ensures.byte (omega arith) (λ w o h. h) in
-    subst (λ (y : Option (List ℕ)). IfOk c.bytes_of_only_line.result (λ bytes. bytes ≡ y)) (line_and_rest c.args.block.now c.in-Some.line.now c.in-Some.rest.now cut.0 cut.1 cut.2) c.bytes_of_only_line.ensures
+    subst (λ (y : Option (List ℕ)). IfOk c.bytes_of_only_line.result (λ bytes. bytes ≡ y))
+    (line_and_rest c.args.block.now c.in-Some.line.now c.in-Some.rest.now cut.0 cut.1 cut.2) c.bytes_of_only_line.ensures

@@ -15,7 +15,8 @@ returns-in-Ok-clause-decision c = λ meta begun.
     let w = plain_of c.in-Some._workspace.now in
     let there = sym c.in-Some.ensures.found in
     let bytes = c.as_slice.result.now in
-    let spelled : bytes_of_lines (slice_split is_lf c.args.block.now) ≡ Some bytes = sym c.in_ok-bytes.ensures ∙ c.in-Some-2.is ∙ ap Some (sym c.as_slice.ensures) in
+    let spelled : bytes_of_lines (slice_split is_lf c.args.block.now) ≡ Some bytes =
+    sym c.in_ok-bytes.ensures ∙ c.in-Some-2.is ∙ ap Some (sym c.as_slice.ensures) in
     subst (λ (y : plain.Decision). IfOk c.load_package.result (λ d. seen d ≡ y))
     (ap (load_read s meta c.args.ws w) (sym c.in-Ok.ensures.read) ∙ load_goes s meta c.args.ws w c.args.block.now bytes there spelled)
     (c.load_package.ensures.decision meta w begun there)
@@ -26,7 +27,8 @@ returns-clause-decision c = λ meta begun.
     let w = plain_of c.in-Some._workspace.now in
     let there = sym c.in-Some.ensures.found in
     let bytes = c.as_slice.result.now in
-    let spelled : bytes_of_lines (slice_split is_lf c.args.block.now) ≡ Some bytes = sym c.in_ok-bytes.ensures ∙ c.in-Some-2.is ∙ ap Some (sym c.as_slice.ensures) in
+    let spelled : bytes_of_lines (slice_split is_lf c.args.block.now) ≡ Some bytes =
+    sym c.in_ok-bytes.ensures ∙ c.in-Some-2.is ∙ ap Some (sym c.as_slice.ensures) in
     let read = c.unread.ensures.loaded _ s meta c.args.ws w c.in-Err.ensures.read in
     subst (λ (y : plain.Decision). IfOk c.refuse_or_fail.result (λ d. seen d ≡ y))
     (load_goes s meta c.args.ws w c.args.block.now bytes there spelled)

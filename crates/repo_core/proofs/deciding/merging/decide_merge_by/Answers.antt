@@ -26,7 +26,8 @@ returns-in-Some-clause-decision c =
     let plan = c.args.plan.now in
     let rows = plan_rows meta s.history g w branch c.args.other plan.buckets.rows c.requires.history c.requires.at c.requires.plan.buckets in
     let answer = merge_of s c.args.ws w branch (unwrap_or c.args.choices.now []) (head s.history branch) in
-    refused_seen c.in_ok-refused.field-0 c.in-Some.refused plan.buckets.rows c.args.choices.now answer c.in-Some.is c.in_ok-refused.ensures.refused ∙ ap (λ (l : List Bucket). chosen l c.args.choices.now answer) rows
+    refused_seen c.in_ok-refused.field-0 c.in-Some.refused plan.buckets.rows c.args.choices.now answer c.in-Some.is c.in_ok-refused.ensures.refused
+    ∙ ap (λ (l : List Bucket). chosen l c.args.choices.now answer) rows
 
 pub returns-in-Some-clause-made : goal.returns-in-Some-clause-made
 returns-in-Some-clause-made c = refused_made c.in_ok-refused.field-0 c.in-Some.refused c.args.repo.now c.in-Some.is c.in_ok-refused.ensures.made
@@ -42,7 +43,8 @@ returns-then-len-eq0-clause-decision c =
     let rows = plan_rows meta s.history g w branch c.args.other plan.buckets.rows c.requires.history c.requires.at c.requires.plan.buckets in
     let theirs = plan_theirs s.history g w branch c.args.other plan.theirs c.requires.history c.requires.at c.requires.plan.theirs in
     let answer = merge_of s c.args.ws w branch (unwrap_or c.args.choices.now []) (head s.history branch) in
-    let passed = ap (λ (l : List Bucket). chosen l c.args.choices.now answer) (sym rows) ∙ passed_on c.in_ok-refused.field-0 plan.buckets.rows c.args.choices.now answer c.in_default.is c.in_ok-refused.ensures.passed in
+    let passed = ap (λ (l : List Bucket). chosen l c.args.choices.now answer) (sym rows)
+    ∙ passed_on c.in_ok-refused.field-0 plan.buckets.rows c.args.choices.now answer c.in_default.is c.in_ok-refused.ensures.passed in
     let at = c.requires.at ∙ ap (λ (h : History). head h branch) (sym c.requires.history) in
     let none = nothing_left s.history w (head s.history branch) plan.theirs theirs (sym c.len.ensures ∙ c.if-len-eq0.true) in
     subst (λ (y : plain.Decision). IfOk c.tell_number.result (λ d. seen d ≡ y))
@@ -60,10 +62,12 @@ with_number-requires c =
     let rows = plan_rows meta s.history g w branch c.args.other plan.buckets.rows c.requires.history c.requires.at c.requires.plan.buckets in
     let theirs = plan_theirs s.history g w branch c.args.other plan.theirs c.requires.history c.requires.at c.requires.plan.theirs in
     let some = something_left s.history w (head s.history branch) plan.theirs theirs (λ none. c.if-len-eq0.false (c.len.ensures ∙ none)) in
-    let fit = subst (λ (l : List Bucket). are_choices (unwrap_or c.args.choices.now []) l ≡ true) rows (passed_fit c.in_ok-refused.field-0 plan.buckets.rows c.args.choices.now c.in_default.is c.in_ok-refused.ensures.fit) in
+    let fit = subst (λ (l : List Bucket). are_choices (unwrap_or c.args.choices.now []) l ≡ true) rows
+    (passed_fit c.in_ok-refused.field-0 plan.buckets.rows c.args.choices.now c.in_default.is c.in_ok-refused.ensures.fit) in
     record {
       could = subst (λ (letters : List ℕ). playable_with s s.meta (Merge c.args.ws branch letters) ≡ true) (sym c.in_ok-choices.ensures)
-          (merge_could s meta c.args.ws branch (unwrap_or c.args.choices.now []) w c.requires.meta c.requires.there c.requires.closed c.requires.branch c.requires.apart some fit);
+          (merge_could s meta c.args.ws branch
+          (unwrap_or c.args.choices.now []) w c.requires.meta c.requires.there c.requires.closed c.requires.branch c.requires.apart some fit);
       suits = refl;
     }
 
@@ -78,7 +82,8 @@ returns-clause-decision c =
     let rows = plan_rows meta s.history g w branch c.args.other plan.buckets.rows c.requires.history c.requires.at c.requires.plan.buckets in
     let theirs = plan_theirs s.history g w branch c.args.other plan.theirs c.requires.history c.requires.at c.requires.plan.theirs in
     let answer = merge_of s c.args.ws w branch (unwrap_or c.args.choices.now []) (head s.history branch) in
-    let passed = ap (λ (l : List Bucket). chosen l c.args.choices.now answer) (sym rows) ∙ passed_on c.in_ok-refused.field-0 plan.buckets.rows c.args.choices.now answer c.in_default.is c.in_ok-refused.ensures.passed in
+    let passed = ap (λ (l : List Bucket). chosen l c.args.choices.now answer) (sym rows)
+    ∙ passed_on c.in_ok-refused.field-0 plan.buckets.rows c.args.choices.now answer c.in_default.is c.in_ok-refused.ensures.passed in
     let at = c.requires.at ∙ ap (λ (h : History). head h branch) (sym c.requires.history) in
     let some = something_left s.history w (head s.history branch) plan.theirs theirs (λ none. c.if-len-eq0.false (c.len.ensures ∙ none)) in
     let event = Merge c.args.ws branch c.in_ok-choices.choices in

@@ -17,17 +17,21 @@ pub decide_update_of-requires-clause-closed : goal.decide_update_of-requires-cla
 decide_update_of-requires-clause-closed c = sym c.is_open.ensures.open ∙ c.if-is_open.false
 
 pub decide_update_of-requires-clause-rows : goal.decide_update_of-requires-clause-rows
-decide_update_of-requires-clause-rows c = c.in_ok-plan.ensures.plan.buckets ∙ ap (λ (h : History). update_buckets c.args.begun.now.meta h (plain_of c.in-Some.workspace.now)) (sym c.requires.history)
+decide_update_of-requires-clause-rows c =
+    c.in_ok-plan.ensures.plan.buckets
+    ∙ ap (λ (h : History). update_buckets c.args.begun.now.meta h (plain_of c.in-Some.workspace.now)) (sym c.requires.history)
 
 pub decide_update_of-requires-clause-branch : goal.decide_update_of-requires-clause-branch
 decide_update_of-requires-clause-branch c =
     let s = c.args.repo.now in
     let meta = c.args.begun.now.meta in
     let w = plain_of c.in-Some.workspace.now in
-    subst (λ (h : History). w.branch < length h.branches) c.requires.history (workspaces_stand s meta w (is_there s meta c.args.ws w c.orderly.ensures c.requires.meta (sym c.in-Some.ensures.found))).branch
+    subst (λ (h : History). w.branch < length h.branches) c.requires.history
+    (workspaces_stand s meta w (is_there s meta c.args.ws w c.orderly.ensures c.requires.meta (sym c.in-Some.ensures.found))).branch
 
 pub returns-clause-decision : goal.returns-clause-decision
 returns-clause-decision c =
     subst (λ (y : plain.Decision). IfOk c.decide_update_of.result (λ d. seen d ≡ y))
-    (update_goes c.args.repo.now c.args.begun.now.meta c.args.ws (plain_of c.in-Some.workspace.now) c.args.choices.now (sym c.in-Some.ensures.found) (sym c.is_open.ensures.open ∙ c.if-is_open.false))
+    (update_goes c.args.repo.now c.args.begun.now.meta c.args.ws (plain_of c.in-Some.workspace.now) c.args.choices.now (sym c.in-Some.ensures.found)
+    (sym c.is_open.ensures.open ∙ c.if-is_open.false))
     c.decide_update_of.ensures.decision

@@ -20,7 +20,8 @@ returns-in-Some-clause-decision c =
     let s = c.args.repo.now in
     let w = plain_of c.args.workspace.now in
     let answer = update_to s c.args.ws w (unwrap_or c.args.choices.now []) (head s.history w.branch) in
-    refused_seen c.in_ok-refused.field-0 c.in-Some.refused c.args.buckets.now.rows c.args.choices.now answer c.in-Some.is c.in_ok-refused.ensures.refused ∙ ap (λ (l : List Bucket). chosen l c.args.choices.now answer) c.requires.rows
+    refused_seen c.in_ok-refused.field-0 c.in-Some.refused c.args.buckets.now.rows c.args.choices.now answer c.in-Some.is
+    c.in_ok-refused.ensures.refused ∙ ap (λ (l : List Bucket). chosen l c.args.choices.now answer) c.requires.rows
 
 pub returns-in-Some-clause-made : goal.returns-in-Some-clause-made
 returns-in-Some-clause-made c = refused_made c.in_ok-refused.field-0 c.in-Some.refused c.args.repo.now c.in-Some.is c.in_ok-refused.ensures.made
@@ -32,7 +33,8 @@ returns-then-workspace-head-clause-decision c =
     let letters = unwrap_or c.args.choices.now [] in
     let at = c.head-head.ensures.head ∙ ap (λ (h : History). head h w.branch) (sym c.requires.history) in
     let answer = update_to s c.args.ws w letters (head s.history w.branch) in
-    let passed = ap (λ (l : List Bucket). chosen l c.args.choices.now answer) (sym c.requires.rows) ∙ passed_on c.in_ok-refused.field-0 c.args.buckets.now.rows c.args.choices.now answer c.in_default.is c.in_ok-refused.ensures.passed in
+    let passed = ap (λ (l : List Bucket). chosen l c.args.choices.now answer) (sym c.requires.rows)
+    ∙ passed_on c.in_ok-refused.field-0 c.args.buckets.now.rows c.args.choices.now answer c.in_default.is c.in_ok-refused.ensures.passed in
     subst (λ (y : plain.Decision). IfOk c.tell_number.result (λ d. seen d ≡ y))
     (ap (λ (n : ℕ). told [] (decimal n)) at ∙ sym (update_none s c.args.ws w letters (head s.history w.branch) (c.if-workspace-head.true ∙ at)) ∙ sym passed)
     c.tell_number.ensures.decision
@@ -44,7 +46,8 @@ with_number-requires c =
     let w = plain_of c.args.workspace.now in
     let letters = unwrap_or c.args.choices.now [] in
     let at = c.head-head.ensures.head ∙ ap (λ (h : History). head h w.branch) (sym c.requires.history) in
-    let fit = subst (λ (l : List Bucket). are_choices letters l ≡ true) c.requires.rows (passed_fit c.in_ok-refused.field-0 c.args.buckets.now.rows c.args.choices.now c.in_default.is c.in_ok-refused.ensures.fit) in
+    let fit = subst (λ (l : List Bucket). are_choices letters l ≡ true) c.requires.rows
+    (passed_fit c.in_ok-refused.field-0 c.args.buckets.now.rows c.args.choices.now c.in_default.is c.in_ok-refused.ensures.fit) in
     record {
       could = subst (λ (l : List ℕ). playable_with s s.meta (Update c.args.ws l) ≡ true) (sym c.in_ok-choices.ensures)
           (update_could s meta c.args.ws letters w c.requires.meta c.requires.there c.requires.closed (λ is. c.if-workspace-head.false (is ∙ sym at)) fit);
@@ -58,7 +61,8 @@ returns-clause-decision c =
     let letters = unwrap_or c.args.choices.now [] in
     let at = c.head-head.ensures.head ∙ ap (λ (h : History). head h w.branch) (sym c.requires.history) in
     let answer = update_to s c.args.ws w letters (head s.history w.branch) in
-    let passed = ap (λ (l : List Bucket). chosen l c.args.choices.now answer) (sym c.requires.rows) ∙ passed_on c.in_ok-refused.field-0 c.args.buckets.now.rows c.args.choices.now answer c.in_default.is c.in_ok-refused.ensures.passed in
+    let passed = ap (λ (l : List Bucket). chosen l c.args.choices.now answer) (sym c.requires.rows)
+    ∙ passed_on c.in_ok-refused.field-0 c.args.buckets.now.rows c.args.choices.now answer c.in_default.is c.in_ok-refused.ensures.passed in
     subst (λ (y : plain.Decision). IfOk c.with_number.result (λ d. seen d ≡ y))
     (ap (λ (n : ℕ). with_room s [] (decimal n) (Update c.args.ws c.in_ok-choices.choices)) at
     ∙ ap (λ (l : List ℕ). with_room s [] (decimal (head s.history w.branch)) (Update c.args.ws l)) c.in_ok-choices.ensures

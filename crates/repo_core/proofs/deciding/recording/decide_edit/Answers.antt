@@ -24,5 +24,6 @@ with_operation-requires c =
       could = each_could c.in-Ok.recorded.operation _ (λ o is.
           edit_could s s.meta meta c.args.ws w o c.requires.meta (sym c.in-Some.ensures.found)
           (subst (λ (n : models.State). is_some (fold_package meta n (o ∷ [])) ≡ true) c.settle.ensures.model
-          (recorded_follows meta c.sound.ensures c.in-Some-model.model.now c.settle.ensures.good c.args.ws c.args.edit.now c.in-Ok.recorded o c.in-Ok.ensures.recorded is)));
+          (recorded_follows meta c.sound.ensures c.in-Some-model.model.now c.settle.ensures.good c.args.ws c.args.edit.now c.in-Ok.recorded o
+          c.in-Ok.ensures.recorded is)));
     }

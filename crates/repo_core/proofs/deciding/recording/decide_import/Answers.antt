@@ -30,6 +30,7 @@ with_operation-requires c =
       could = each_could c.in-Ok-import_doc.operation _ (λ o is.
           edit_could s s.meta meta c.args.ws w o c.requires.meta (sym c.in-Some.ensures.found)
           (subst (λ (n : models.State). is_some (fold_package meta n (o ∷ [])) ≡ true) c.settle.ensures.model
-          (imported_follows meta c.promised.ensures c.in-Some-model.model.now c.settle.ensures.good c.args.ws c.args.text.now c.in-Ok.doc.rows o c.in-Ok.ensures.read
+          (imported_follows meta c.promised.ensures c.in-Some-model.model.now c.settle.ensures.good c.args.ws c.args.text.now c.in-Ok.doc.rows o
+          c.in-Ok.ensures.read
           (subst (λ (p : Option Operation). Imports meta c.in-Some-model.model.now c.args.ws c.in-Ok.doc.rows (Ok p)) is c.in-Ok-import_doc.ensures.made))));
     }

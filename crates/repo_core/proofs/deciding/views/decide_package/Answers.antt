@@ -9,5 +9,6 @@ package_lines-requires-clause-typed c =
     let v = c.in-Ok.found.version in
     let version = c.version-version.result.now in
     let back = sym c.requires.history in
-    version_typed c.args.repo.now c.args.begun.now.meta v version c.sound.ensures c.orderly.ensures c.requires.meta (subst (λ (h : History). slice_get h.versions v ≡ Some version) back c.version-version.ensures.version)
+    version_typed c.args.repo.now c.args.begun.now.meta v version c.sound.ensures c.orderly.ensures c.requires.meta
+    (subst (λ (h : History). slice_get h.versions v ≡ Some version) back c.version-version.ensures.version)
     c.version-version.ensures.parent (subst (λ (h : History). v < length h.versions) back c.in-Ok.ensures.version)

@@ -39,4 +39,5 @@ returns-in-Err-clause-cannot c =
     let t = taker s meta c.args.ws c.args.package.now begun c.requires.takes in
     λ is. let same : c.package_fault.result ≡ NotPlayable = cc in
     taken_cannot s meta c.args.ws c.args.package.now begun t c.args.model.now c.requires.model
-    (subst (λ (os : List Operation). fold_package meta c.args.model.now os ≡ None) c.as_slice.ensures (c.in-Err.ensures.cannot (c.package_fault.ensures.other same)))
+    (subst (λ (os : List Operation). fold_package meta c.args.model.now os ≡ None) c.as_slice.ensures
+    (c.in-Err.ensures.cannot (c.package_fault.ensures.other same)))

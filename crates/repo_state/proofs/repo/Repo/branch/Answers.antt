@@ -12,17 +12,22 @@ branch-begun-requires-clause-base c =
     let s = c.args.self.now in
     let begun = c.in-Some-begun.begun in
     let w = c.in-Some-index_mut.workspace in
-    let p = placed c.self.inside.begun c.self.inside.workspaces.items c.self.inside.events c.self.inside.end c.args.self.now c.args.ws c.in-Some.at c.index_mut.result.now _ c.in-Some-index_mut.workspace c.self.view_is c.in-Some.ensures.there.0 c.in-Some.ensures.there.1 c.index_mut.ensures.value c.in-Some-index_mut.is in
+    let p = placed c.self.inside.begun c.self.inside.workspaces.items c.self.inside.events c.self.inside.end c.args.self.now c.args.ws c.in-Some.at
+    c.index_mut.result.now _ c.in-Some-index_mut.workspace c.self.view_is c.in-Some.ensures.there.0 c.in-Some.ensures.there.1
+    c.index_mut.ensures.value c.in-Some-index_mut.is in
     let is_begun = begun_is c.self.inside.begun begun _ c.self.inside.events c.self.inside.end s c.self.view_is c.in-Some-begun.is in
     let hist = history_is c.self.inside.begun begun _ c.self.inside.events c.self.inside.end s c.self.view_is c.in-Some-begun.is in
-    (stands_in s begun.meta begun.history.history c.args.ws (plain_of w) (subst IsOrderly c.self.view_is c.self.invariant.2) is_begun hist (placed_there p)).base
+    (stands_in s begun.meta begun.history.history c.args.ws (plain_of w) (subst IsOrderly c.self.view_is c.self.invariant.2) is_begun hist
+    (placed_there p)).base
 
 pub branch-begun-requires-clause-new : goal.branch-begun-requires-clause-new
 branch-begun-requires-clause-new c =
     let s = c.args.self.now in
     let begun = c.in-Some-begun.begun in
     let w = c.in-Some-index_mut.workspace in
-    let p = placed c.self.inside.begun c.self.inside.workspaces.items c.self.inside.events c.self.inside.end c.args.self.now c.args.ws c.in-Some.at c.index_mut.result.now _ c.in-Some-index_mut.workspace c.self.view_is c.in-Some.ensures.there.0 c.in-Some.ensures.there.1 c.index_mut.ensures.value c.in-Some-index_mut.is in
+    let p = placed c.self.inside.begun c.self.inside.workspaces.items c.self.inside.events c.self.inside.end c.args.self.now c.args.ws c.in-Some.at
+    c.index_mut.result.now _ c.in-Some-index_mut.workspace c.self.view_is c.in-Some.ensures.there.0 c.in-Some.ensures.there.1
+    c.index_mut.ensures.value c.in-Some-index_mut.is in
     let is_begun = begun_is c.self.inside.begun begun _ c.self.inside.events c.self.inside.end s c.self.view_is c.in-Some-begun.is in
     let hist = history_is c.self.inside.begun begun _ c.self.inside.events c.self.inside.end s c.self.view_is c.in-Some-begun.is in
     branch_new s begun.meta begun.history.history c.args.ws c.args.name is_begun hist c.requires.could
@@ -32,7 +37,9 @@ invariant_of-self c =
     let s = c.args.self.now in
     let begun = c.in-Some-begun.begun in
     let w = c.in-Some-index_mut.workspace in
-    let p = placed c.self.inside.begun c.self.inside.workspaces.items c.self.inside.events c.self.inside.end c.args.self.now c.args.ws c.in-Some.at c.index_mut.result.now _ c.in-Some-index_mut.workspace c.self.view_is c.in-Some.ensures.there.0 c.in-Some.ensures.there.1 c.index_mut.ensures.value c.in-Some-index_mut.is in
+    let p = placed c.self.inside.begun c.self.inside.workspaces.items c.self.inside.events c.self.inside.end c.args.self.now c.args.ws c.in-Some.at
+    c.index_mut.result.now _ c.in-Some-index_mut.workspace c.self.view_is c.in-Some.ensures.there.0 c.in-Some.ensures.there.1
+    c.index_mut.ensures.value c.in-Some-index_mut.is in
     let is_begun = begun_is c.self.inside.begun begun _ c.self.inside.events c.self.inside.end s c.self.view_is c.in-Some-begun.is in
     let hist = history_is c.self.inside.begun begun _ c.self.inside.events c.self.inside.end s c.self.view_is c.in-Some-begun.is in
     let new = c.branch-begun.new.self in
@@ -41,12 +48,25 @@ invariant_of-self c =
     let r = c.branch-begun.result in
     let made = both_ok _ _ r c.branch-begun.ensures.branch c.branch-begun.ensures.moved in
     let not_made = both_err _ _ r c.branch-begun.ensures.same c.branch-begun.ensures.same_workspace in
-    let done = on_ok r (λ is. branch_done c.self.inside.begun begun new c.self.inside.workspaces.items c.self.inside.events c.self.inside.end s c.self.view_is c.in-Some-begun.is c.branch-begun.ensures.meta c.branch-begun.ensures.upgraded orderly c.self.invariant.1 p w' c.branch-begun.ensures.model c.args.name is.0 is.1) made in
-    let same = on_err r (λ is. grown_same c.self.inside.begun begun new c.self.inside.workspaces.items c.self.inside.events c.self.inside.end s c.self.view_is c.in-Some-begun.is c.branch-begun.ensures.meta c.branch-begun.ensures.upgraded orderly c.self.invariant.1 p w' c.branch-begun.ensures.model is.0 is.1) not_made in (
+    let done = on_ok r (λ is.
+    branch_done c.self.inside.begun begun new c.self.inside.workspaces.items c.self.inside.events c.self.inside.end s c.self.view_is
+    c.in-Some-begun.is c.branch-begun.ensures.meta c.branch-begun.ensures.upgraded orderly c.self.invariant.1 p w' c.branch-begun.ensures.model
+    c.args.name is.0 is.1) made in
+    let same = on_err r (λ is.
+    grown_same c.self.inside.begun begun new c.self.inside.workspaces.items c.self.inside.events c.self.inside.end s c.self.view_is
+    c.in-Some-begun.is c.branch-begun.ensures.meta c.branch-begun.ensures.upgraded orderly c.self.invariant.1 p w' c.branch-begun.ensures.model
+    is.0 is.1) not_made in (
       c.self.invariant.0,
-      either r made not_made (λ is. branch_fit c.self.inside.begun begun new c.self.inside.workspaces.items c.self.inside.events c.self.inside.end s c.self.view_is c.in-Some-begun.is c.branch-begun.ensures.meta c.branch-begun.ensures.upgraded orderly c.self.invariant.1 p w' c.branch-begun.ensures.model c.args.name is.0 is.1) (λ is. grown_same_fit c.self.inside.begun begun new c.self.inside.workspaces.items c.self.inside.events c.self.inside.end s c.self.view_is c.in-Some-begun.is c.branch-begun.ensures.meta c.branch-begun.ensures.upgraded orderly c.self.invariant.1 p w' c.branch-begun.ensures.model is.0 is.1),
+      either r made not_made
+          (λ is. branch_fit c.self.inside.begun begun new c.self.inside.workspaces.items c.self.inside.events c.self.inside.end s c.self.view_is
+          c.in-Some-begun.is c.branch-begun.ensures.meta c.branch-begun.ensures.upgraded orderly c.self.invariant.1 p w' c.branch-begun.ensures.model
+          c.args.name is.0 is.1)
+          (λ is. grown_same_fit c.self.inside.begun begun new c.self.inside.workspaces.items c.self.inside.events c.self.inside.end s c.self.view_is
+          c.in-Some-begun.is c.branch-begun.ensures.meta c.branch-begun.ensures.upgraded orderly c.self.invariant.1 p w' c.branch-begun.ensures.model
+          is.0 is.1),
       either_orderly r s _ begun.meta (Branch c.args.ws c.args.name) is_begun c.requires.could c.requires.spelled orderly done same,
-      keepers_set c.self.inside.recent c.self.inside.workspaces.items c.in-Some.at (Some w') (λ keeps. keeper_before p c.self.inside.recent c.self.invariant.3 (same_keeps w w' c.branch-begun.ensures.model keeps)) c.self.invariant.3,
+      keepers_set c.self.inside.recent c.self.inside.workspaces.items c.in-Some.at (Some w')
+          (λ keeps. keeper_before p c.self.inside.recent c.self.invariant.3 (same_keeps w w' c.branch-begun.ensures.model keeps)) c.self.invariant.3,
     )
 
 pub returns : goal.returns
@@ -54,7 +74,9 @@ returns c =
     let s = c.args.self.now in
     let begun = c.in-Some-begun.begun in
     let w = c.in-Some-index_mut.workspace in
-    let p = placed c.self.inside.begun c.self.inside.workspaces.items c.self.inside.events c.self.inside.end c.args.self.now c.args.ws c.in-Some.at c.index_mut.result.now _ c.in-Some-index_mut.workspace c.self.view_is c.in-Some.ensures.there.0 c.in-Some.ensures.there.1 c.index_mut.ensures.value c.in-Some-index_mut.is in
+    let p = placed c.self.inside.begun c.self.inside.workspaces.items c.self.inside.events c.self.inside.end c.args.self.now c.args.ws c.in-Some.at
+    c.index_mut.result.now _ c.in-Some-index_mut.workspace c.self.view_is c.in-Some.ensures.there.0 c.in-Some.ensures.there.1
+    c.index_mut.ensures.value c.in-Some-index_mut.is in
     let is_begun = begun_is c.self.inside.begun begun _ c.self.inside.events c.self.inside.end s c.self.view_is c.in-Some-begun.is in
     let hist = history_is c.self.inside.begun begun _ c.self.inside.events c.self.inside.end s c.self.view_is c.in-Some-begun.is in
     let new = c.branch-begun.new.self in
@@ -63,6 +85,12 @@ returns c =
     let r = c.branch-begun.result in
     let made = both_ok _ _ r c.branch-begun.ensures.branch c.branch-begun.ensures.moved in
     let not_made = both_err _ _ r c.branch-begun.ensures.same c.branch-begun.ensures.same_workspace in
-    let done = on_ok r (λ is. branch_done c.self.inside.begun begun new c.self.inside.workspaces.items c.self.inside.events c.self.inside.end s c.self.view_is c.in-Some-begun.is c.branch-begun.ensures.meta c.branch-begun.ensures.upgraded orderly c.self.invariant.1 p w' c.branch-begun.ensures.model c.args.name is.0 is.1) made in
-    let same = on_err r (λ is. grown_same c.self.inside.begun begun new c.self.inside.workspaces.items c.self.inside.events c.self.inside.end s c.self.view_is c.in-Some-begun.is c.branch-begun.ensures.meta c.branch-begun.ensures.upgraded orderly c.self.invariant.1 p w' c.branch-begun.ensures.model is.0 is.1) not_made in
+    let done = on_ok r (λ is.
+    branch_done c.self.inside.begun begun new c.self.inside.workspaces.items c.self.inside.events c.self.inside.end s c.self.view_is
+    c.in-Some-begun.is c.branch-begun.ensures.meta c.branch-begun.ensures.upgraded orderly c.self.invariant.1 p w' c.branch-begun.ensures.model
+    c.args.name is.0 is.1) made in
+    let same = on_err r (λ is.
+    grown_same c.self.inside.begun begun new c.self.inside.workspaces.items c.self.inside.events c.self.inside.end s c.self.view_is
+    c.in-Some-begun.is c.branch-begun.ensures.meta c.branch-begun.ensures.upgraded orderly c.self.invariant.1 p w' c.branch-begun.ensures.model
+    is.0 is.1) not_made in
     record { done = done; same = same }

@@ -16,8 +16,11 @@ invariant_of-self c =
     let meta = c.in-Some._begun.meta in
     let is_begun : s.meta ≡ Some meta = sym (ap meta_in c.self.view_is) ∙ ap meta_of c.in-Some.is in (
       c.self.invariant.0,
-      pushed_fit c.self.inside.begun c.self.inside.workspaces.items c.push.new.self.items c.new.result (is_ok c.push.result) c.new.ensures.model c.push.ensures.items c.self.invariant.1,
-      pushed_order c.self.inside.begun c.self.inside.workspaces.items c.push.new.self.items c.self.inside.events c.self.inside.end s meta c.new.result (is_ok c.push.result) c.args.version c.args.branch c.self.view_is is_begun
+      pushed_fit c.self.inside.begun c.self.inside.workspaces.items c.push.new.self.items c.new.result
+          (is_ok c.push.result) c.new.ensures.model c.push.ensures.items c.self.invariant.1,
+      pushed_order c.self.inside.begun c.self.inside.workspaces.items c.push.new.self.items c.self.inside.events c.self.inside.end s meta c.new.result
+          (is_ok c.push.result) c.args.version c.args.branch c.self.view_is is_begun
           c.requires.could c.requires.spelled (subst IsOrderly c.self.view_is c.self.invariant.2) c.new.ensures.untouched c.push.ensures.items,
-      keepers_pushed c.self.inside.recent c.self.inside.workspaces.items c.push.new.self.items c.new.result (is_ok c.push.result) c.new.ensures.model c.push.ensures.items c.self.invariant.3,
+      keepers_pushed c.self.inside.recent c.self.inside.workspaces.items c.push.new.self.items c.new.result
+          (is_ok c.push.result) c.new.ensures.model c.push.ensures.items c.self.invariant.3,
     )

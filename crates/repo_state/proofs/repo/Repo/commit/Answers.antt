@@ -12,17 +12,22 @@ commit-requires-clause-branch c =
     let s = c.args.self.now in
     let begun = c.in-Some-begun.begun in
     let w = c.in-Some-index_mut.workspace in
-    let p = placed c.self.inside.begun c.self.inside.workspaces.items c.self.inside.events c.self.inside.end c.args.self.now c.args.ws c.in-Some.at c.index_mut.result.now _ c.in-Some-index_mut.workspace c.self.view_is c.in-Some.ensures.there.0 c.in-Some.ensures.there.1 c.index_mut.ensures.value c.in-Some-index_mut.is in
+    let p = placed c.self.inside.begun c.self.inside.workspaces.items c.self.inside.events c.self.inside.end c.args.self.now c.args.ws c.in-Some.at
+    c.index_mut.result.now _ c.in-Some-index_mut.workspace c.self.view_is c.in-Some.ensures.there.0 c.in-Some.ensures.there.1
+    c.index_mut.ensures.value c.in-Some-index_mut.is in
     let is_begun = begun_is c.self.inside.begun begun _ c.self.inside.events c.self.inside.end s c.self.view_is c.in-Some-begun.is in
     let hist = history_is c.self.inside.begun begun _ c.self.inside.events c.self.inside.end s c.self.view_is c.in-Some-begun.is in
-    (stands_in s begun.meta begun.history.history c.args.ws (plain_of w) (subst IsOrderly c.self.view_is c.self.invariant.2) is_begun hist (placed_there p)).branch
+    (stands_in s begun.meta begun.history.history c.args.ws (plain_of w) (subst IsOrderly c.self.view_is c.self.invariant.2) is_begun hist
+    (placed_there p)).branch
 
 pub commit-requires-clause-at_head : goal.commit-requires-clause-at_head
 commit-requires-clause-at_head c =
     let s = c.args.self.now in
     let begun = c.in-Some-begun.begun in
     let w = c.in-Some-index_mut.workspace in
-    let p = placed c.self.inside.begun c.self.inside.workspaces.items c.self.inside.events c.self.inside.end c.args.self.now c.args.ws c.in-Some.at c.index_mut.result.now _ c.in-Some-index_mut.workspace c.self.view_is c.in-Some.ensures.there.0 c.in-Some.ensures.there.1 c.index_mut.ensures.value c.in-Some-index_mut.is in
+    let p = placed c.self.inside.begun c.self.inside.workspaces.items c.self.inside.events c.self.inside.end c.args.self.now c.args.ws c.in-Some.at
+    c.index_mut.result.now _ c.in-Some-index_mut.workspace c.self.view_is c.in-Some.ensures.there.0 c.in-Some.ensures.there.1
+    c.index_mut.ensures.value c.in-Some-index_mut.is in
     let is_begun = begun_is c.self.inside.begun begun _ c.self.inside.events c.self.inside.end s c.self.view_is c.in-Some-begun.is in
     let hist = history_is c.self.inside.begun begun _ c.self.inside.events c.self.inside.end s c.self.view_is c.in-Some-begun.is in
     commit_at_head s begun.meta begun.history.history c.args.ws (plain_of w) c.args.signature c.args.message is_begun hist (placed_there p) c.requires.could
@@ -32,17 +37,22 @@ commit-requires-clause-pending c =
     let s = c.args.self.now in
     let begun = c.in-Some-begun.begun in
     let w = c.in-Some-index_mut.workspace in
-    let p = placed c.self.inside.begun c.self.inside.workspaces.items c.self.inside.events c.self.inside.end c.args.self.now c.args.ws c.in-Some.at c.index_mut.result.now _ c.in-Some-index_mut.workspace c.self.view_is c.in-Some.ensures.there.0 c.in-Some.ensures.there.1 c.index_mut.ensures.value c.in-Some-index_mut.is in
+    let p = placed c.self.inside.begun c.self.inside.workspaces.items c.self.inside.events c.self.inside.end c.args.self.now c.args.ws c.in-Some.at
+    c.index_mut.result.now _ c.in-Some-index_mut.workspace c.self.view_is c.in-Some.ensures.there.0 c.in-Some.ensures.there.1
+    c.index_mut.ensures.value c.in-Some-index_mut.is in
     let is_begun = begun_is c.self.inside.begun begun _ c.self.inside.events c.self.inside.end s c.self.view_is c.in-Some-begun.is in
     let hist = history_is c.self.inside.begun begun _ c.self.inside.events c.self.inside.end s c.self.view_is c.in-Some-begun.is in
-    (stands_in s begun.meta begun.history.history c.args.ws (plain_of w) (subst IsOrderly c.self.view_is c.self.invariant.2) is_begun hist (placed_there p)).pending
+    (stands_in s begun.meta begun.history.history c.args.ws (plain_of w) (subst IsOrderly c.self.view_is c.self.invariant.2) is_begun hist
+    (placed_there p)).pending
 
 pub invariant_of-self : goal.invariant_of-self
 invariant_of-self c =
     let s = c.args.self.now in
     let begun = c.in-Some-begun.begun in
     let w = c.in-Some-index_mut.workspace in
-    let p = placed c.self.inside.begun c.self.inside.workspaces.items c.self.inside.events c.self.inside.end c.args.self.now c.args.ws c.in-Some.at c.index_mut.result.now _ c.in-Some-index_mut.workspace c.self.view_is c.in-Some.ensures.there.0 c.in-Some.ensures.there.1 c.index_mut.ensures.value c.in-Some-index_mut.is in
+    let p = placed c.self.inside.begun c.self.inside.workspaces.items c.self.inside.events c.self.inside.end c.args.self.now c.args.ws c.in-Some.at
+    c.index_mut.result.now _ c.in-Some-index_mut.workspace c.self.view_is c.in-Some.ensures.there.0 c.in-Some.ensures.there.1
+    c.index_mut.ensures.value c.in-Some-index_mut.is in
     let is_begun = begun_is c.self.inside.begun begun _ c.self.inside.events c.self.inside.end s c.self.view_is c.in-Some-begun.is in
     let hist = history_is c.self.inside.begun begun _ c.self.inside.events c.self.inside.end s c.self.view_is c.in-Some-begun.is in
     let new = c.commit.new.self in
@@ -51,12 +61,23 @@ invariant_of-self c =
     let r = c.commit.result in
     let made = both_ok _ _ r c.commit.ensures.version c.commit.ensures.committed in
     let not_made = both_err _ _ r c.commit.ensures.same c.commit.ensures.same_workspace in
-    let done = on_ok r (λ is. commit_done c.self.inside.begun begun new c.self.inside.workspaces.items c.self.inside.events c.self.inside.end s c.self.view_is c.in-Some-begun.is c.commit.ensures.meta c.commit.ensures.upgraded orderly c.self.invariant.1 p w' c.commit.ensures.model c.args.signature c.args.message is.0 is.1) made in
-    let same = on_err r (λ is. grown_same c.self.inside.begun begun new c.self.inside.workspaces.items c.self.inside.events c.self.inside.end s c.self.view_is c.in-Some-begun.is c.commit.ensures.meta c.commit.ensures.upgraded orderly c.self.invariant.1 p w' c.commit.ensures.model is.0 is.1) not_made in (
+    let done = on_ok r (λ is.
+    commit_done c.self.inside.begun begun new c.self.inside.workspaces.items c.self.inside.events c.self.inside.end s c.self.view_is
+    c.in-Some-begun.is c.commit.ensures.meta c.commit.ensures.upgraded orderly c.self.invariant.1 p w' c.commit.ensures.model c.args.signature
+    c.args.message is.0 is.1) made in
+    let same = on_err r (λ is.
+    grown_same c.self.inside.begun begun new c.self.inside.workspaces.items c.self.inside.events c.self.inside.end s c.self.view_is
+    c.in-Some-begun.is c.commit.ensures.meta c.commit.ensures.upgraded orderly c.self.invariant.1 p w' c.commit.ensures.model is.0 is.1) not_made in (
       c.self.invariant.0,
-      either r made not_made (λ is. commit_fit c.self.inside.begun begun new c.self.inside.workspaces.items c.self.inside.events c.self.inside.end s c.self.view_is c.in-Some-begun.is c.commit.ensures.meta c.commit.ensures.upgraded orderly c.self.invariant.1 p w' c.commit.ensures.model c.args.signature c.args.message c.requires.could is.0 is.1) (λ is. grown_same_fit c.self.inside.begun begun new c.self.inside.workspaces.items c.self.inside.events c.self.inside.end s c.self.view_is c.in-Some-begun.is c.commit.ensures.meta c.commit.ensures.upgraded orderly c.self.invariant.1 p w' c.commit.ensures.model is.0 is.1),
+      either r made not_made
+          (λ is. commit_fit c.self.inside.begun begun new c.self.inside.workspaces.items c.self.inside.events c.self.inside.end s c.self.view_is
+          c.in-Some-begun.is c.commit.ensures.meta c.commit.ensures.upgraded orderly c.self.invariant.1 p w' c.commit.ensures.model c.args.signature
+          c.args.message c.requires.could is.0 is.1)
+          (λ is. grown_same_fit c.self.inside.begun begun new c.self.inside.workspaces.items c.self.inside.events c.self.inside.end s c.self.view_is
+          c.in-Some-begun.is c.commit.ensures.meta c.commit.ensures.upgraded orderly c.self.invariant.1 p w' c.commit.ensures.model is.0 is.1),
       either_orderly r s _ begun.meta (version_event c.args.ws c.args.signature c.args.message) is_begun c.requires.could c.requires.spelled orderly done same,
-      keepers_set c.self.inside.recent c.self.inside.workspaces.items c.in-Some.at (Some w') (λ keeps. keeper_before p c.self.inside.recent c.self.invariant.3 (same_keeps w w' c.commit.ensures.model keeps)) c.self.invariant.3,
+      keepers_set c.self.inside.recent c.self.inside.workspaces.items c.in-Some.at (Some w')
+          (λ keeps. keeper_before p c.self.inside.recent c.self.invariant.3 (same_keeps w w' c.commit.ensures.model keeps)) c.self.invariant.3,
     )
 
 pub returns : goal.returns
@@ -64,7 +85,9 @@ returns c =
     let s = c.args.self.now in
     let begun = c.in-Some-begun.begun in
     let w = c.in-Some-index_mut.workspace in
-    let p = placed c.self.inside.begun c.self.inside.workspaces.items c.self.inside.events c.self.inside.end c.args.self.now c.args.ws c.in-Some.at c.index_mut.result.now _ c.in-Some-index_mut.workspace c.self.view_is c.in-Some.ensures.there.0 c.in-Some.ensures.there.1 c.index_mut.ensures.value c.in-Some-index_mut.is in
+    let p = placed c.self.inside.begun c.self.inside.workspaces.items c.self.inside.events c.self.inside.end c.args.self.now c.args.ws c.in-Some.at
+    c.index_mut.result.now _ c.in-Some-index_mut.workspace c.self.view_is c.in-Some.ensures.there.0 c.in-Some.ensures.there.1
+    c.index_mut.ensures.value c.in-Some-index_mut.is in
     let is_begun = begun_is c.self.inside.begun begun _ c.self.inside.events c.self.inside.end s c.self.view_is c.in-Some-begun.is in
     let hist = history_is c.self.inside.begun begun _ c.self.inside.events c.self.inside.end s c.self.view_is c.in-Some-begun.is in
     let new = c.commit.new.self in
@@ -73,6 +96,11 @@ returns c =
     let r = c.commit.result in
     let made = both_ok _ _ r c.commit.ensures.version c.commit.ensures.committed in
     let not_made = both_err _ _ r c.commit.ensures.same c.commit.ensures.same_workspace in
-    let done = on_ok r (λ is. commit_done c.self.inside.begun begun new c.self.inside.workspaces.items c.self.inside.events c.self.inside.end s c.self.view_is c.in-Some-begun.is c.commit.ensures.meta c.commit.ensures.upgraded orderly c.self.invariant.1 p w' c.commit.ensures.model c.args.signature c.args.message is.0 is.1) made in
-    let same = on_err r (λ is. grown_same c.self.inside.begun begun new c.self.inside.workspaces.items c.self.inside.events c.self.inside.end s c.self.view_is c.in-Some-begun.is c.commit.ensures.meta c.commit.ensures.upgraded orderly c.self.invariant.1 p w' c.commit.ensures.model is.0 is.1) not_made in
+    let done = on_ok r (λ is.
+    commit_done c.self.inside.begun begun new c.self.inside.workspaces.items c.self.inside.events c.self.inside.end s c.self.view_is
+    c.in-Some-begun.is c.commit.ensures.meta c.commit.ensures.upgraded orderly c.self.invariant.1 p w' c.commit.ensures.model c.args.signature
+    c.args.message is.0 is.1) made in
+    let same = on_err r (λ is.
+    grown_same c.self.inside.begun begun new c.self.inside.workspaces.items c.self.inside.events c.self.inside.end s c.self.view_is
+    c.in-Some-begun.is c.commit.ensures.meta c.commit.ensures.upgraded orderly c.self.invariant.1 p w' c.commit.ensures.model is.0 is.1) not_made in
     record { done = done; same = same }

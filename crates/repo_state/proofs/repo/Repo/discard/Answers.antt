@@ -14,17 +14,22 @@ discard-requires-clause-base c =
     let s = c.args.self.now in
     let begun = c.in-Some-begun.begun in
     let w = c.in-Some-index_mut.workspace in
-    let p = placed c.self.inside.begun c.self.inside.workspaces.items c.self.inside.events c.self.inside.end c.args.self.now c.args.ws c.in-Some.at c.index_mut.result.now _ c.in-Some-index_mut.workspace c.self.view_is c.in-Some.ensures.there.0 c.in-Some.ensures.there.1 c.index_mut.ensures.value c.in-Some-index_mut.is in
+    let p = placed c.self.inside.begun c.self.inside.workspaces.items c.self.inside.events c.self.inside.end c.args.self.now c.args.ws c.in-Some.at
+    c.index_mut.result.now _ c.in-Some-index_mut.workspace c.self.view_is c.in-Some.ensures.there.0 c.in-Some.ensures.there.1
+    c.index_mut.ensures.value c.in-Some-index_mut.is in
     let is_begun = begun_is c.self.inside.begun begun _ c.self.inside.events c.self.inside.end s c.self.view_is c.in-Some-begun.is in
     let hist = history_is c.self.inside.begun begun _ c.self.inside.events c.self.inside.end s c.self.view_is c.in-Some-begun.is in
-    base_good s begun.meta begun.history.history c.args.ws (plain_of w) is_begun hist (placed_there p) (subst IsOrderly c.self.view_is c.self.invariant.2) c.sound.ensures
+    base_good s begun.meta begun.history.history c.args.ws (plain_of w) is_begun hist (placed_there p)
+    (subst IsOrderly c.self.view_is c.self.invariant.2) c.sound.ensures
 
 pub discard-requires-clause-fits : goal.discard-requires-clause-fits
 discard-requires-clause-fits c =
     let s = c.args.self.now in
     let begun = c.in-Some-begun.begun in
     let w = c.in-Some-index_mut.workspace in
-    let p = placed c.self.inside.begun c.self.inside.workspaces.items c.self.inside.events c.self.inside.end c.args.self.now c.args.ws c.in-Some.at c.index_mut.result.now _ c.in-Some-index_mut.workspace c.self.view_is c.in-Some.ensures.there.0 c.in-Some.ensures.there.1 c.index_mut.ensures.value c.in-Some-index_mut.is in
+    let p = placed c.self.inside.begun c.self.inside.workspaces.items c.self.inside.events c.self.inside.end c.args.self.now c.args.ws c.in-Some.at
+    c.index_mut.result.now _ c.in-Some-index_mut.workspace c.self.view_is c.in-Some.ensures.there.0 c.in-Some.ensures.there.1
+    c.index_mut.ensures.value c.in-Some-index_mut.is in
     fit_before p begun c.in-Some-begun.is c.self.invariant.1
 
 pub invariant_of-self : goal.invariant_of-self
@@ -33,19 +38,25 @@ invariant_of-self c =
     let begun = c.in-Some-begun.begun in
     let w = c.in-Some-index_mut.workspace in
     let new = c.discard.new.self in
-    let p = placed c.self.inside.begun c.self.inside.workspaces.items c.self.inside.events c.self.inside.end c.args.self.now c.args.ws c.in-Some.at c.index_mut.result.now _ c.in-Some-index_mut.workspace c.self.view_is c.in-Some.ensures.there.0 c.in-Some.ensures.there.1 c.index_mut.ensures.value c.in-Some-index_mut.is in
+    let p = placed c.self.inside.begun c.self.inside.workspaces.items c.self.inside.events c.self.inside.end c.args.self.now c.args.ws c.in-Some.at
+    c.index_mut.result.now _ c.in-Some-index_mut.workspace c.self.view_is c.in-Some.ensures.there.0 c.in-Some.ensures.there.1
+    c.index_mut.ensures.value c.in-Some-index_mut.is in
     let is_begun = begun_is c.self.inside.begun begun _ c.self.inside.events c.self.inside.end s c.self.view_is c.in-Some-begun.is in
     let fits = c.discard.ensures.fits in (
       c.self.invariant.0,
       fit_set c.self.inside.begun begun c.self.inside.workspaces.items c.in-Some.at (Some new) c.in-Some-begun.is fits c.self.invariant.1,
-      effect_orderly s _ begun.meta (Discard c.args.ws) is_begun c.requires.could c.requires.spelled (subst IsOrderly c.self.view_is c.self.invariant.2) (changed_view p without_any new c.discard.ensures.discarded),
-      keepers_set c.self.inside.recent c.self.inside.workspaces.items c.in-Some.at (Some new) (λ keeps. keeper_before p c.self.inside.recent c.self.invariant.3 (c.discard.ensures.kept keeps)) c.self.invariant.3,
+      effect_orderly s _ begun.meta (Discard c.args.ws) is_begun c.requires.could c.requires.spelled
+          (subst IsOrderly c.self.view_is c.self.invariant.2) (changed_view p without_any new c.discard.ensures.discarded),
+      keepers_set c.self.inside.recent c.self.inside.workspaces.items c.in-Some.at (Some new)
+          (λ keeps. keeper_before p c.self.inside.recent c.self.invariant.3 (c.discard.ensures.kept keeps)) c.self.invariant.3,
     )
 
 pub returns : goal.returns
 returns c =
     let new = c.discard.new.self in
-    let p = placed c.self.inside.begun c.self.inside.workspaces.items c.self.inside.events c.self.inside.end c.args.self.now c.args.ws c.in-Some.at c.index_mut.result.now _ c.in-Some-index_mut.workspace c.self.view_is c.in-Some.ensures.there.0 c.in-Some.ensures.there.1 c.index_mut.ensures.value c.in-Some-index_mut.is in
+    let p = placed c.self.inside.begun c.self.inside.workspaces.items c.self.inside.events c.self.inside.end c.args.self.now c.args.ws c.in-Some.at
+    c.index_mut.result.now _ c.in-Some-index_mut.workspace c.self.view_is c.in-Some.ensures.there.0 c.in-Some.ensures.there.1
+    c.index_mut.ensures.value c.in-Some-index_mut.is in
     record {
       done = changed_view p without_any new c.discard.ensures.discarded;
     }

@@ -14,11 +14,14 @@ invariant_of-self c =
       c.self.invariant.0,
       fit_set c.self.inside.begun begun c.self.inside.workspaces.items c.in-Some.at None c.in-Some-begun.is tt c.self.invariant.1,
       effect_orderly s _ begun.meta (Drop c.args.ws) is_begun c.requires.could c.requires.spelled (subst IsOrderly c.self.view_is c.self.invariant.2)
-          (number_set (λ o. None) c.self.inside.begun c.self.inside.workspaces.items c.self.inside.events c.self.inside.end s c.args.ws c.in-Some.at None None c.self.view_is c.in-Some.ensures.there.0 c.in-Some.ensures.there.1 refl),
-      keepers_set c.self.inside.recent c.self.inside.workspaces.items c.in-Some.at None (λ keeps. let clash : false ≡ true = keeps in absurd cc) c.self.invariant.3,
+          (number_set (λ o. None) c.self.inside.begun c.self.inside.workspaces.items c.self.inside.events c.self.inside.end s c.args.ws c.in-Some.at
+          None None c.self.view_is c.in-Some.ensures.there.0 c.in-Some.ensures.there.1 refl),
+      keepers_set c.self.inside.recent c.self.inside.workspaces.items c.in-Some.at None
+          (λ keeps. let clash : false ≡ true = keeps in absurd cc) c.self.invariant.3,
     )
 
 pub returns : goal.returns
 returns c = record {
-  done = number_set (λ o. None) c.self.inside.begun c.self.inside.workspaces.items c.self.inside.events c.self.inside.end c.args.self.now c.args.ws c.in-Some.at None None c.self.view_is c.in-Some.ensures.there.0 c.in-Some.ensures.there.1 refl;
+  done = number_set (λ o. None) c.self.inside.begun c.self.inside.workspaces.items c.self.inside.events c.self.inside.end c.args.self.now c.args.ws
+      c.in-Some.at None None c.self.view_is c.in-Some.ensures.there.0 c.in-Some.ensures.there.1 refl;
 }

@@ -14,8 +14,10 @@ invariant_of-self c =
     let is_begun = begun_is c.self.inside.begun begun _ c.self.inside.events c.self.inside.end s c.self.view_is c.in-Some.is in
     let orderly = subst IsOrderly c.self.view_is c.self.invariant.2 in (
       c.self.invariant.0,
-      evolve_fit c.self.inside.begun begun c.self.inside.workspaces.items c.self.inside.events c.self.inside.end s c.self.view_is c.in-Some.is orderly c.self.invariant.1 text meta c.in_ok-meta.ensures.could c.in_ok-meta.ensures.grown,
+      evolve_fit c.self.inside.begun begun c.self.inside.workspaces.items c.self.inside.events c.self.inside.end s c.self.view_is c.in-Some.is orderly
+          c.self.invariant.1 text meta c.in_ok-meta.ensures.could c.in_ok-meta.ensures.grown,
       effect_orderly s _ begun.meta (Evolve text) is_begun c.in_ok-meta.ensures.could c.requires.spelled orderly
-          (evolve_done c.self.inside.begun begun c.self.inside.workspaces.items c.self.inside.events c.self.inside.end s c.self.view_is c.in-Some.is orderly c.self.invariant.1 text meta c.in_ok-meta.ensures.grown),
+          (evolve_done c.self.inside.begun begun c.self.inside.workspaces.items c.self.inside.events c.self.inside.end s c.self.view_is c.in-Some.is
+          orderly c.self.invariant.1 text meta c.in_ok-meta.ensures.grown),
       c.self.invariant.3,
     )

@@ -13,8 +13,14 @@ pub install-requires : goal.install-requires
 install-requires c =
     let s = c.args.self.now in
     let begun = c.in-Some-begun._begun in
-    let p = placed c.self.inside.begun c.self.inside.workspaces.items c.self.inside.events c.self.inside.end c.args.self.now c.args.ws c.in-Some.at c.index_mut.result.now _ c.in-Some-index_mut.workspace c.self.view_is c.in-Some.ensures.there.0 c.in-Some.ensures.there.1 c.index_mut.ensures.value c.in-Some-index_mut.is in
-    record { takes = edit_takes s begun.meta c.args.ws (plain_of c.in-Some-index_mut.workspace) c.args.package (begun_is c.self.inside.begun begun _ c.self.inside.events c.self.inside.end s c.self.view_is c.in-Some-begun.is) (placed_there p) c.requires.could }
+    let p = placed c.self.inside.begun c.self.inside.workspaces.items c.self.inside.events c.self.inside.end c.args.self.now c.args.ws c.in-Some.at
+    c.index_mut.result.now _ c.in-Some-index_mut.workspace c.self.view_is c.in-Some.ensures.there.0 c.in-Some.ensures.there.1
+    c.index_mut.ensures.value c.in-Some-index_mut.is in
+    record {
+      takes = edit_takes s begun.meta c.args.ws (plain_of c.in-Some-index_mut.workspace) c.args.package
+          (begun_is c.self.inside.begun begun _ c.self.inside.events c.self.inside.end s c.self.view_is c.in-Some-begun.is)
+          (placed_there p) c.requires.could;
+    }
 
 pub invariant_of-self : goal.invariant_of-self
 invariant_of-self c =
@@ -22,24 +28,34 @@ invariant_of-self c =
     let begun = c.in-Some-begun._begun in
     let w = c.in-Some-index_mut.workspace in
     let new = c.install.new.self in
-    let p = placed c.self.inside.begun c.self.inside.workspaces.items c.self.inside.events c.self.inside.end c.args.self.now c.args.ws c.in-Some.at c.index_mut.result.now _ c.in-Some-index_mut.workspace c.self.view_is c.in-Some.ensures.there.0 c.in-Some.ensures.there.1 c.index_mut.ensures.value c.in-Some-index_mut.is in
+    let p = placed c.self.inside.begun c.self.inside.workspaces.items c.self.inside.events c.self.inside.end c.args.self.now c.args.ws c.in-Some.at
+    c.index_mut.result.now _ c.in-Some-index_mut.workspace c.self.view_is c.in-Some.ensures.there.0 c.in-Some.ensures.there.1
+    c.index_mut.ensures.value c.in-Some-index_mut.is in
     let is_begun = begun_is c.self.inside.begun begun _ c.self.inside.events c.self.inside.end s c.self.view_is c.in-Some-begun.is in
     let fits = either c.install.result (both_ok _ _ c.install.result c.install.ensures.more c.install.ensures.kept) c.install.ensures.gone
-    (λ is. fits_if begun.meta begun.history.history c.to_keep-kept.result c.args.model new c.to_keep-kept.ensures.same is.1 (λ kept. installed_fits s begun.meta begun.history.history c.args.ws w new c.args.package c.args.model is_begun (history_is c.self.inside.begun begun _ c.self.inside.events c.self.inside.end s c.self.view_is c.in-Some-begun.is) (placed_there p)
+    (λ is. fits_if begun.meta begun.history.history c.to_keep-kept.result c.args.model new c.to_keep-kept.ensures.same is.1
+    (λ kept. installed_fits s begun.meta begun.history.history c.args.ws w new c.args.package c.args.model is_begun
+    (history_is c.self.inside.begun begun _ c.self.inside.events c.self.inside.end s c.self.view_is c.in-Some-begun.is) (placed_there p)
     (subst IsOrderly c.self.view_is c.self.invariant.2) c.requires.leads is.0 kept))
     (λ is. none_fits begun.meta begun.history.history new is) in (
       c.self.invariant.0,
       fit_set c.self.inside.begun begun c.self.inside.workspaces.items c.in-Some.at (Some new) c.in-Some-begun.is fits c.self.invariant.1,
-      either_orderly c.install.result s _ begun.meta (Edit c.args.ws c.args.package) is_begun c.requires.could c.requires.spelled (subst IsOrderly c.self.view_is c.self.invariant.2)
+      either_orderly c.install.result s _ begun.meta (Edit c.args.ws c.args.package) is_begun c.requires.could c.requires.spelled
+          (subst IsOrderly c.self.view_is c.self.invariant.2)
           (on_ok c.install.result (changed_view p (with_more c.args.package) new) c.install.ensures.more)
           (on_err c.install.result (unchanged_view p new) c.install.ensures.same),
-      keepers_set c.self.inside.recent c.self.inside.workspaces.items c.in-Some.at (Some new) (either c.install.result c.install.ensures.kept c.install.ensures.gone (λ is keeps. kept_if c.self.inside.recent c.in-Some.at c.to_keep-kept.result new c.to_keep-kept.ensures.among is keeps) (λ is keeps. none_keeps new _ is keeps)) c.self.invariant.3,
+      keepers_set c.self.inside.recent c.self.inside.workspaces.items c.in-Some.at (Some new)
+          (either c.install.result c.install.ensures.kept c.install.ensures.gone
+          (λ is keeps. kept_if c.self.inside.recent c.in-Some.at c.to_keep-kept.result new c.to_keep-kept.ensures.among is keeps)
+          (λ is keeps. none_keeps new _ is keeps)) c.self.invariant.3,
     )
 
 pub returns : goal.returns
 returns c =
     let new = c.install.new.self in
-    let p = placed c.self.inside.begun c.self.inside.workspaces.items c.self.inside.events c.self.inside.end c.args.self.now c.args.ws c.in-Some.at c.index_mut.result.now _ c.in-Some-index_mut.workspace c.self.view_is c.in-Some.ensures.there.0 c.in-Some.ensures.there.1 c.index_mut.ensures.value c.in-Some-index_mut.is in
+    let p = placed c.self.inside.begun c.self.inside.workspaces.items c.self.inside.events c.self.inside.end c.args.self.now c.args.ws c.in-Some.at
+    c.index_mut.result.now _ c.in-Some-index_mut.workspace c.self.view_is c.in-Some.ensures.there.0 c.in-Some.ensures.there.1
+    c.index_mut.ensures.value c.in-Some-index_mut.is in
     record {
       done = on_ok c.install.result (changed_view p (with_more c.args.package) new) c.install.ensures.more;
       same = on_err c.install.result (unchanged_view p new) c.install.ensures.same;

@@ -23,18 +23,31 @@ invariant_of-self c =
     let w = c.in-Some-index_mut.workspace in
     let begun : s.meta ≡ Some meta = sym (ap meta_in c.self.view_is) ∙ ap meta_of c.in-Some-begun.is in
     let hist : s.history ≡ c.in-Some-begun.begun.history.history = sym (ap history_in c.self.view_is) ∙ ap history_of c.in-Some-begun.is in
-    let at : workspace_of s c.args.ws ≡ Some (plain_of w) = at_is s c.self.inside.workspaces.items c.args.ws c.in-Some.at c.index_mut.result.now _ (ap (λ (s : State). s.workspaces) c.self.view_is) c.in-Some.ensures.there.0 c.in-Some.ensures.there.1 c.index_mut.ensures.value ∙ ap plain_any c.in-Some-index_mut.is in
+    let at : workspace_of s c.args.ws ≡ Some (plain_of w) =
+    at_is s c.self.inside.workspaces.items c.args.ws c.in-Some.at c.index_mut.result.now _
+    (ap (λ (s : State). s.workspaces) c.self.view_is) c.in-Some.ensures.there.0 c.in-Some.ensures.there.1 c.index_mut.ensures.value
+    ∙ ap plain_any c.in-Some-index_mut.is in
     let there : IsThere s meta (plain_of w) = is_there s meta c.args.ws (plain_of w) (subst IsOrderly c.self.view_is c.self.invariant.2) begun at in
-    let same = same_at c.self.inside.workspaces.items c.in-Some.at c.index_mut.result.now _ c.in-Some-index_mut.workspace c.keep_model.new.self (below_is c.args.self.now c.self.inside.workspaces.items c.in-Some.at (ap (λ (s : State). s.workspaces) c.self.view_is) c.in-Some.ensures.there.1) c.index_mut.ensures.value c.in-Some-index_mut.is c.keep_model.ensures.same in (
+    let same = same_at c.self.inside.workspaces.items c.in-Some.at c.index_mut.result.now _ c.in-Some-index_mut.workspace c.keep_model.new.self
+    (below_is c.args.self.now c.self.inside.workspaces.items c.in-Some.at
+    (ap (λ (s : State). s.workspaces) c.self.view_is) c.in-Some.ensures.there.1) c.index_mut.ensures.value c.in-Some-index_mut.is
+    c.keep_model.ensures.same in (
       c.self.invariant.0,
       fit_set c.self.inside.begun c.in-Some-begun.begun c.self.inside.workspaces.items c.in-Some.at (Some c.keep_model.new.self) c.in-Some-begun.is
-          (fits_if meta c.in-Some-begun.begun.history.history c.to_keep-kept.result c.args.model c.keep_model.new.self c.to_keep-kept.ensures.same c.keep_model.ensures.kept
-          (kept_fits s c.args.ws meta c.in-Some-begun.begun.history.history w c.keep_model.new.self c.args.model begun hist there at c.requires.model c.keep_model.ensures.same)) c.self.invariant.1,
+          (fits_if meta c.in-Some-begun.begun.history.history c.to_keep-kept.result c.args.model c.keep_model.new.self c.to_keep-kept.ensures.same
+          c.keep_model.ensures.kept
+          (kept_fits s c.args.ws meta c.in-Some-begun.begun.history.history w c.keep_model.new.self c.args.model begun hist there at c.requires.model
+          c.keep_model.ensures.same)) c.self.invariant.1,
       order_same c.self.inside.begun c.self.inside.workspaces.items _ c.self.inside.events c.self.inside.end same c.self.invariant.2,
-      keepers_set c.self.inside.recent c.self.inside.workspaces.items c.in-Some.at (Some c.keep_model.new.self) (kept_if c.self.inside.recent c.in-Some.at c.to_keep-kept.result c.keep_model.new.self c.to_keep-kept.ensures.among c.keep_model.ensures.kept) c.self.invariant.3,
+      keepers_set c.self.inside.recent c.self.inside.workspaces.items c.in-Some.at (Some c.keep_model.new.self)
+          (kept_if c.self.inside.recent c.in-Some.at c.to_keep-kept.result c.keep_model.new.self c.to_keep-kept.ensures.among
+          c.keep_model.ensures.kept) c.self.invariant.3,
     )
 
 pub returns : goal.returns
 returns c =
-    let same = same_at c.self.inside.workspaces.items c.in-Some.at c.index_mut.result.now _ c.in-Some-index_mut.workspace c.keep_model.new.self (below_is c.args.self.now c.self.inside.workspaces.items c.in-Some.at (ap (λ (s : State). s.workspaces) c.self.view_is) c.in-Some.ensures.there.1) c.index_mut.ensures.value c.in-Some-index_mut.is c.keep_model.ensures.same in
+    let same = same_at c.self.inside.workspaces.items c.in-Some.at c.index_mut.result.now _ c.in-Some-index_mut.workspace c.keep_model.new.self
+    (below_is c.args.self.now c.self.inside.workspaces.items c.in-Some.at
+    (ap (λ (s : State). s.workspaces) c.self.view_is) c.in-Some.ensures.there.1) c.index_mut.ensures.value c.in-Some-index_mut.is
+    c.keep_model.ensures.same in
     record { same = view_same c.self.inside.begun c.self.inside.workspaces.items _ c.self.inside.events c.self.inside.end c.args.self.now same c.self.view_is }

@@ -4,4 +4,5 @@ use Rattle.repo_state.specs.Working.{IsWorkingModel}
 use Rattle.repo_state.proofs.repo.Repo.record.Goals as goal
 
 pub advance-requires-clause-model : goal.advance-requires-clause-model
-advance-requires-clause-model c = subst (λ (t : State). IsWorkingModel t c.args.ws c.in_ok-model.model) (sym c.take_model.ensures.same) c.in_ok-model.ensures.model
+advance-requires-clause-model c =
+    subst (λ (t : State). IsWorkingModel t c.args.ws c.in_ok-model.model) (sym c.take_model.ensures.same) c.in_ok-model.ensures.model

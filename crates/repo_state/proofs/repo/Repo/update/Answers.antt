@@ -14,16 +14,21 @@ update-requires-clause-base c =
     let s = c.args.self.now in
     let begun = c.in-Some-begun.begun in
     let w = c.in-Some-index_mut.workspace in
-    let p = placed c.self.inside.begun c.self.inside.workspaces.items c.self.inside.events c.self.inside.end c.args.self.now c.args.ws c.in-Some.at c.index_mut.result.now _ c.in-Some-index_mut.workspace c.self.view_is c.in-Some.ensures.there.0 c.in-Some.ensures.there.1 c.index_mut.ensures.value c.in-Some-index_mut.is in
+    let p = placed c.self.inside.begun c.self.inside.workspaces.items c.self.inside.events c.self.inside.end c.args.self.now c.args.ws c.in-Some.at
+    c.index_mut.result.now _ c.in-Some-index_mut.workspace c.self.view_is c.in-Some.ensures.there.0 c.in-Some.ensures.there.1
+    c.index_mut.ensures.value c.in-Some-index_mut.is in
     let is_begun = begun_is c.self.inside.begun begun _ c.self.inside.events c.self.inside.end s c.self.view_is c.in-Some-begun.is in
     let hist = history_is c.self.inside.begun begun _ c.self.inside.events c.self.inside.end s c.self.view_is c.in-Some-begun.is in
-    base_good s begun.meta begun.history.history c.args.ws (plain_of w) is_begun hist (placed_there p) (subst IsOrderly c.self.view_is c.self.invariant.2) c.sound.ensures
+    base_good s begun.meta begun.history.history c.args.ws (plain_of w) is_begun hist (placed_there p)
+    (subst IsOrderly c.self.view_is c.self.invariant.2) c.sound.ensures
 
 pub update-requires-clause-closed : goal.update-requires-clause-closed
 update-requires-clause-closed c =
     let s = c.args.self.now in
     let w = c.in-Some-index_mut.workspace in
-    let p = placed c.self.inside.begun c.self.inside.workspaces.items c.self.inside.events c.self.inside.end c.args.self.now c.args.ws c.in-Some.at c.index_mut.result.now _ c.in-Some-index_mut.workspace c.self.view_is c.in-Some.ensures.there.0 c.in-Some.ensures.there.1 c.index_mut.ensures.value c.in-Some-index_mut.is in
+    let p = placed c.self.inside.begun c.self.inside.workspaces.items c.self.inside.events c.self.inside.end c.args.self.now c.args.ws c.in-Some.at
+    c.index_mut.result.now _ c.in-Some-index_mut.workspace c.self.view_is c.in-Some.ensures.there.0 c.in-Some.ensures.there.1
+    c.index_mut.ensures.value c.in-Some-index_mut.is in
     there_closed s c.args.ws (plain_of w) (placed_there p) c.requires.closed
 
 pub update-requires-clause-fits : goal.update-requires-clause-fits
@@ -31,7 +36,9 @@ update-requires-clause-fits c =
     let s = c.args.self.now in
     let begun = c.in-Some-begun.begun in
     let w = c.in-Some-index_mut.workspace in
-    let p = placed c.self.inside.begun c.self.inside.workspaces.items c.self.inside.events c.self.inside.end c.args.self.now c.args.ws c.in-Some.at c.index_mut.result.now _ c.in-Some-index_mut.workspace c.self.view_is c.in-Some.ensures.there.0 c.in-Some.ensures.there.1 c.index_mut.ensures.value c.in-Some-index_mut.is in
+    let p = placed c.self.inside.begun c.self.inside.workspaces.items c.self.inside.events c.self.inside.end c.args.self.now c.args.ws c.in-Some.at
+    c.index_mut.result.now _ c.in-Some-index_mut.workspace c.self.view_is c.in-Some.ensures.there.0 c.in-Some.ensures.there.1
+    c.index_mut.ensures.value c.in-Some-index_mut.is in
     fit_before p begun c.in-Some-begun.is c.self.invariant.1
 
 pub update-requires-clause-theirs : goal.update-requires-clause-theirs
@@ -39,20 +46,26 @@ update-requires-clause-theirs c =
     let s = c.args.self.now in
     let begun = c.in-Some-begun.begun in
     let w = c.in-Some-index_mut.workspace in
-    let p = placed c.self.inside.begun c.self.inside.workspaces.items c.self.inside.events c.self.inside.end c.args.self.now c.args.ws c.in-Some.at c.index_mut.result.now _ c.in-Some-index_mut.workspace c.self.view_is c.in-Some.ensures.there.0 c.in-Some.ensures.there.1 c.index_mut.ensures.value c.in-Some-index_mut.is in
+    let p = placed c.self.inside.begun c.self.inside.workspaces.items c.self.inside.events c.self.inside.end c.args.self.now c.args.ws c.in-Some.at
+    c.index_mut.result.now _ c.in-Some-index_mut.workspace c.self.view_is c.in-Some.ensures.there.0 c.in-Some.ensures.there.1
+    c.index_mut.ensures.value c.in-Some-index_mut.is in
     let is_begun = begun_is c.self.inside.begun begun _ c.self.inside.events c.self.inside.end s c.self.view_is c.in-Some-begun.is in
     let hist = history_is c.self.inside.begun begun _ c.self.inside.events c.self.inside.end s c.self.view_is c.in-Some-begun.is in
-    theirs_of_base s begun.meta begun.history.history c.args.ws (plain_of w) c.args.updated.base c.args.updated.theirs is_begun hist (placed_there p) c.requires.theirs
+    theirs_of_base s begun.meta begun.history.history c.args.ws (plain_of w) c.args.updated.base c.args.updated.theirs is_begun hist
+    (placed_there p) c.requires.theirs
 
 pub update-requires-clause-leads : goal.update-requires-clause-leads
 update-requires-clause-leads c =
     let s = c.args.self.now in
     let begun = c.in-Some-begun.begun in
     let w = c.in-Some-index_mut.workspace in
-    let p = placed c.self.inside.begun c.self.inside.workspaces.items c.self.inside.events c.self.inside.end c.args.self.now c.args.ws c.in-Some.at c.index_mut.result.now _ c.in-Some-index_mut.workspace c.self.view_is c.in-Some.ensures.there.0 c.in-Some.ensures.there.1 c.index_mut.ensures.value c.in-Some-index_mut.is in
+    let p = placed c.self.inside.begun c.self.inside.workspaces.items c.self.inside.events c.self.inside.end c.args.self.now c.args.ws c.in-Some.at
+    c.index_mut.result.now _ c.in-Some-index_mut.workspace c.self.view_is c.in-Some.ensures.there.0 c.in-Some.ensures.there.1
+    c.index_mut.ensures.value c.in-Some-index_mut.is in
     let is_begun = begun_is c.self.inside.begun begun _ c.self.inside.events c.self.inside.end s c.self.view_is c.in-Some-begun.is in
     let hist = history_is c.self.inside.begun begun _ c.self.inside.events c.self.inside.end s c.self.view_is c.in-Some-begun.is in
-    restarted_leads s begun.meta begun.history.history c.args.ws (plain_of w) c.args.updated.base c.args.updated.operations is_begun hist (placed_there p) (there_closed s c.args.ws (plain_of w) (placed_there p) c.requires.closed) c.requires.orderly
+    restarted_leads s begun.meta begun.history.history c.args.ws (plain_of w) c.args.updated.base c.args.updated.operations is_begun hist
+    (placed_there p) (there_closed s c.args.ws (plain_of w) (placed_there p) c.requires.closed) c.requires.orderly
 
 pub invariant_of-self : goal.invariant_of-self
 invariant_of-self c =
@@ -60,18 +73,23 @@ invariant_of-self c =
     let begun = c.in-Some-begun.begun in
     let w = c.in-Some-index_mut.workspace in
     let new = c.update.new.self in
-    let p = placed c.self.inside.begun c.self.inside.workspaces.items c.self.inside.events c.self.inside.end c.args.self.now c.args.ws c.in-Some.at c.index_mut.result.now _ c.in-Some-index_mut.workspace c.self.view_is c.in-Some.ensures.there.0 c.in-Some.ensures.there.1 c.index_mut.ensures.value c.in-Some-index_mut.is in
+    let p = placed c.self.inside.begun c.self.inside.workspaces.items c.self.inside.events c.self.inside.end c.args.self.now c.args.ws c.in-Some.at
+    c.index_mut.result.now _ c.in-Some-index_mut.workspace c.self.view_is c.in-Some.ensures.there.0 c.in-Some.ensures.there.1
+    c.index_mut.ensures.value c.in-Some-index_mut.is in
     let fits = c.update.ensures.fits in (
       c.self.invariant.0,
       fit_set c.self.inside.begun begun c.self.inside.workspaces.items c.in-Some.at (Some new) c.in-Some-begun.is fits c.self.invariant.1,
       subst IsOrderly (sym (changed_view p (restarted c.args.updated.base c.args.updated.operations) new c.update.ensures.updated)) c.requires.orderly,
-      keepers_set c.self.inside.recent c.self.inside.workspaces.items c.in-Some.at (Some new) (λ keeps. keeper_before p c.self.inside.recent c.self.invariant.3 (c.update.ensures.kept keeps)) c.self.invariant.3,
+      keepers_set c.self.inside.recent c.self.inside.workspaces.items c.in-Some.at (Some new)
+          (λ keeps. keeper_before p c.self.inside.recent c.self.invariant.3 (c.update.ensures.kept keeps)) c.self.invariant.3,
     )
 
 pub returns : goal.returns
 returns c =
     let new = c.update.new.self in
-    let p = placed c.self.inside.begun c.self.inside.workspaces.items c.self.inside.events c.self.inside.end c.args.self.now c.args.ws c.in-Some.at c.index_mut.result.now _ c.in-Some-index_mut.workspace c.self.view_is c.in-Some.ensures.there.0 c.in-Some.ensures.there.1 c.index_mut.ensures.value c.in-Some-index_mut.is in
+    let p = placed c.self.inside.begun c.self.inside.workspaces.items c.self.inside.events c.self.inside.end c.args.self.now c.args.ws c.in-Some.at
+    c.index_mut.result.now _ c.in-Some-index_mut.workspace c.self.view_is c.in-Some.ensures.there.0 c.in-Some.ensures.there.1
+    c.index_mut.ensures.value c.in-Some-index_mut.is in
     record {
       done = changed_view p (restarted c.args.updated.base c.args.updated.operations) new c.update.ensures.updated;
     }

@@ -12,7 +12,10 @@ invariant_of-self c =
     let is_begun = begun_is c.self.inside.begun begun _ c.self.inside.events c.self.inside.end s c.self.view_is c.in-Some.is in
     let orderly = subst IsOrderly c.self.view_is c.self.invariant.2 in (
       c.self.invariant.0,
-      upgrade_fit c.self.inside.begun begun c.self.inside.workspaces.items c.self.inside.events c.self.inside.end s c.self.view_is c.in-Some.is orderly c.self.invariant.1,
-      effect_orderly s _ begun.meta Upgrade is_begun c.requires.could tt orderly (upgrade_done c.self.inside.begun begun c.self.inside.workspaces.items c.self.inside.events c.self.inside.end s c.self.view_is c.in-Some.is orderly c.self.invariant.1),
+      upgrade_fit c.self.inside.begun begun c.self.inside.workspaces.items c.self.inside.events c.self.inside.end s c.self.view_is c.in-Some.is
+          orderly c.self.invariant.1,
+      effect_orderly s _ begun.meta Upgrade is_begun c.requires.could tt orderly
+          (upgrade_done c.self.inside.begun begun c.self.inside.workspaces.items c.self.inside.events c.self.inside.end s c.self.view_is c.in-Some.is
+          orderly c.self.invariant.1),
       c.self.invariant.3,
     )

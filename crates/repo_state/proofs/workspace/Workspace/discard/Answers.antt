@@ -8,4 +8,6 @@ pub rewind-model-requires-clause-fits : goal.rewind-model-requires-clause-fits
 rewind-model-requires-clause-fits c =
     let meta = c.args.meta.now in
     let h = c.args.history.now.history in
-    fits_same meta h h c.args.self.now c.close_composite.new.self (ap (λ (w : Workspace). folded meta h w) c.in-Ok.ensures.closed ∙ closed_folded meta h (plain_of c.args.self.now)) c.close_composite.ensures.model c.requires.fits
+    fits_same meta h h c.args.self.now c.close_composite.new.self
+    (ap (λ (w : Workspace). folded meta h w) c.in-Ok.ensures.closed ∙ closed_folded meta h (plain_of c.args.self.now))
+    c.close_composite.ensures.model c.requires.fits

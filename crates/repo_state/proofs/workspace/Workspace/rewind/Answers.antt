@@ -33,5 +33,6 @@ returns-clause-state c =
     let moved = c.replace.ensures.value in
     let same : c.from_vec-operations.result ≡ w.operations = cc in
     started meta c.requires.sound (state_of meta h w.base) m c.from_vec-operations.result c.model_before.result c.requires.base
-    (subst (λ (os : List Operation). fold_package meta (state_of meta h w.base) os ≡ Some m) (sym same) (sym (closed_folded_is meta h w c.requires.closed) ∙ (c.requires.fits m model).0))
+    (subst (λ (os : List Operation). fold_package meta (state_of meta h w.base) os ≡ Some m) (sym same)
+    (sym (closed_folded_is meta h w c.requires.closed) ∙ (c.requires.fits m model).0))
     c.model_before.ensures.before c.model_before.ensures.good

@@ -15,7 +15,9 @@ model_after-model-requires-clause-leads c =
     let value = c.take.ensures.value in
     let there = c.in-Some.is in
     let model : c.args.self.now.model ≡ Some m = cc in
-    ap is_some (ap (fold_package meta m) c.as_slice.ensures ∙ sym (taken_folded meta h (plain_of c.args.self.now) c.args.merged.more c.args.merged.version m c.requires.closed (c.requires.fits m model).0)) ∙ c.requires.leads
+    ap is_some (ap (fold_package meta m) c.as_slice.ensures
+    ∙ sym (taken_folded meta h (plain_of c.args.self.now) c.args.merged.more c.args.merged.version m c.requires.closed
+    (c.requires.fits m model).0)) ∙ c.requires.leads
 
 pub returns-clause-fits : goal.returns-clause-fits
 returns-clause-fits c = λ m is. elim c.match-take.branch [
@@ -27,6 +29,7 @@ returns-clause-fits c = λ m is. elim c.match-take.branch [
       let there = w.in-Some.is in
       let model : c.args.self.now.model ≡ Some w.in-Some.model = cc in
       subst (λ (v : Workspace). (folded meta h v ≡ Some m) × Good meta m) (sym c.in_ok-append_merged.ensures.taken)
-      (merged_fits meta h (plain_of c.args.self.now) c.args.merged.more w.as_slice.result.now c.args.merged.version w.in-Some.model w.model_after-model.result m (sym w.model-is ∙ is)
+      (merged_fits meta h (plain_of c.args.self.now) c.args.merged.more w.as_slice.result.now c.args.merged.version w.in-Some.model
+      w.model_after-model.result m (sym w.model-is ∙ is)
       w.model_after-model.ensures.after w.model_after-model.ensures.good w.as_slice.ensures c.requires.closed (c.requires.fits w.in-Some.model model).0))
 ]

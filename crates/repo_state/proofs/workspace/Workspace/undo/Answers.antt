@@ -13,7 +13,8 @@ model_before_one-model-requires-clause-led c =
     let value = c.take.ensures.value in
     let there = c.in-Some-take.is in
     let model : c.args.self.now.model ≡ Some m = cc in
-    last_led c.args.meta.now c.requires.sound c.args._history.now.history w c.pop.new.self.items c.in-Some.operation m (and_left (is_closed (Some w)) (has_operations (Some w)) c.requires.can) c.in-Some.ensures.items c.requires.base
+    last_led c.args.meta.now c.requires.sound c.args._history.now.history w c.pop.new.self.items c.in-Some.operation m
+    (and_left (is_closed (Some w)) (has_operations (Some w)) c.requires.can) c.in-Some.ensures.items c.requires.base
     (c.requires.fits m model).0
 
 pub returns-clause-fits : goal.returns-clause-fits
@@ -23,6 +24,8 @@ returns-clause-fits c = λ m is. elim c.match-take.branch [
       let value = c.take.ensures.value in
       let there = w.in-Some-take.is in
       let model : c.args.self.now.model ≡ Some w.in-Some-take.model = cc in
-      undone_fits c.args.meta.now c.requires.sound c.args._history.now.history c.args.self.now c.pop.new.self.items c.in-Some.operation w.in-Some-take.model w.model_before_one-model.result m (sym w.model-is ∙ is)
-      w.model_before_one-model.ensures.before w.model_before_one-model.ensures.good c.requires.can c.in-Some.ensures.items c.requires.base c.requires.fits model)
+      undone_fits c.args.meta.now c.requires.sound c.args._history.now.history c.args.self.now c.pop.new.self.items c.in-Some.operation
+      w.in-Some-take.model w.model_before_one-model.result m (sym w.model-is ∙ is)
+      w.model_before_one-model.ensures.before w.model_before_one-model.ensures.good c.requires.can c.in-Some.ensures.items c.requires.base
+      c.requires.fits model)
 ]

@@ -22,7 +22,8 @@ updated_model-model-requires-clause-mine c =
     let whole = c.from_vec-mine.ensures in
     let moved = c.replace.ensures.value in
     let same : c.from_vec-mine.result ≡ w.operations = cc in
-    subst (λ (os : List Operation). fold_package meta (state_of meta h w.base) os ≡ Some m) (sym same) (sym (closed_folded_is meta h w c.requires.closed) ∙ (c.requires.fits m model).0)
+    subst (λ (os : List Operation). fold_package meta (state_of meta h w.base) os ≡ Some m) (sym same)
+    (sym (closed_folded_is meta h w c.requires.closed) ∙ (c.requires.fits m model).0)
 
 pub returns-clause-fits : goal.returns-clause-fits
 returns-clause-fits c = λ m is. elim c.match-take.branch [

@@ -8,23 +8,37 @@ use Rattle.state_cache.proofs.Listed.{found_out, lookup_stands, promoted_stands,
 use Rattle.state_cache.proofs.cache.Cache.lookup.Goals as goal
 
 pub read-requires : goal.read-requires
-read-requires c = record { out = found_out (nat_eq c.args.version) c.args.pool.now c.args.self.now c.in-Some.paged.now (ap (λ (es : Entries). lookup (nat_eq c.args.version) es) (sym c.self.view_is) ∙ sym c.in-Some.ensures) c.requires.out }
+read-requires c = record {
+  out =
+      found_out (nat_eq c.args.version) c.args.pool.now c.args.self.now c.in-Some.paged.now
+      (ap (λ (es : Entries). lookup (nat_eq c.args.version) es) (sym c.self.view_is) ∙ sym c.in-Some.ensures) c.requires.out;
+}
 
 pub returns-in-None-clause-found : goal.returns-in-None-clause-found
-returns-in-None-clause-found c = sym (lookup_stands (nat_eq c.args.version) c.args.pool.now c.args.self.now ∙ ap (λ (o : Option PagedState). option_map (λ p. content c.args.pool.now p) o) (ap (λ (es : Entries). lookup (nat_eq c.args.version) es) (sym c.self.view_is) ∙ sym c.in-None.ensures))
+returns-in-None-clause-found c =
+    sym (lookup_stands (nat_eq c.args.version) c.args.pool.now c.args.self.now
+    ∙ ap (λ (o : Option PagedState). option_map (λ p. content c.args.pool.now p) o)
+    (ap (λ (es : Entries). lookup (nat_eq c.args.version) es) (sym c.self.view_is) ∙ sym c.in-None.ensures))
 
 pub returns-in-None-clause-first : goal.returns-in-None-clause-first
-returns-in-None-clause-first c = sym (promoted_none (nat_eq c.args.version) c.args.self.now (ap (λ (es : Entries). lookup (nat_eq c.args.version) es) (sym c.self.view_is) ∙ sym c.in-None.ensures))
+returns-in-None-clause-first c =
+    sym (promoted_none (nat_eq c.args.version) c.args.self.now
+    (ap (λ (es : Entries). lookup (nat_eq c.args.version) es) (sym c.self.view_is) ∙ sym c.in-None.ensures))
 
 pub returns-in-None-clause-order : goal.returns-in-None-clause-order
-returns-in-None-clause-order c = sym (promoted_stands (nat_eq c.args.version) c.args.pool.now c.args.self.now ∙ ap (λ (es : Entries). stands c.args.pool.now es) (promoted_none (nat_eq c.args.version) c.args.self.now (ap (λ (es : Entries). lookup (nat_eq c.args.version) es) (sym c.self.view_is) ∙ sym c.in-None.ensures)))
+returns-in-None-clause-order c =
+    sym (promoted_stands (nat_eq c.args.version) c.args.pool.now c.args.self.now
+    ∙ ap (λ (es : Entries). stands c.args.pool.now es)
+    (promoted_none (nat_eq c.args.version) c.args.self.now
+    (ap (λ (es : Entries). lookup (nat_eq c.args.version) es) (sym c.self.view_is) ∙ sym c.in-None.ensures)))
 
 pub invariant_of-self : goal.invariant_of-self
 invariant_of-self c =
     let out = subst (λ (es : Entries). IsCached c.args.pool.now es) (sym c.self.view_is) c.requires.out in
     let moved = promoted_out (nat_eq c.args.version) c.args.pool.now c.self.inside.entries.entries c.in-Some.paged.now (sym c.in-Some.ensures) out in
     let is = ap (λ (l : LruCache ℕ PagedState). l.entries) c.promote.ensures.entries in
-    let frames : length (held c.promote.new.self.entries) ≡ length (held c.self.inside.entries.entries) = ap (λ (es : Entries). length (held es)) is ∙ moved.1 in
+    let frames : length (held c.promote.new.self.entries) ≡ length (held c.self.inside.entries.entries) =
+    ap (λ (es : Entries). length (held es)) is ∙ moved.1 in
     let count : length c.promote.new.self.entries ≡ length c.self.inside.entries.entries = ap (λ (es : Entries). length es) is ∙ moved.2 in
     record {
       most_is = ap (λ (l : LruCache ℕ PagedState). l.cap) c.promote.ensures.entries ∙ c.self.invariant.most_is;
@@ -34,7 +48,11 @@ invariant_of-self c =
     }
 
 pub returns-clause-found : goal.returns-clause-found
-returns-clause-found c = ap (λ (l : List ℕ). Some l) c.in_ok-bytes-in-Some.ensures.read ∙ sym (lookup_stands (nat_eq c.args.version) c.args.pool.now c.args.self.now ∙ ap (λ (o : Option PagedState). option_map (λ p. content c.args.pool.now p) o) (ap (λ (es : Entries). lookup (nat_eq c.args.version) es) (sym c.self.view_is) ∙ sym c.in-Some.ensures))
+returns-clause-found c =
+    ap (λ (l : List ℕ). Some l) c.in_ok-bytes-in-Some.ensures.read
+    ∙ sym (lookup_stands (nat_eq c.args.version) c.args.pool.now c.args.self.now
+    ∙ ap (λ (o : Option PagedState). option_map (λ p. content c.args.pool.now p) o)
+    (ap (λ (es : Entries). lookup (nat_eq c.args.version) es) (sym c.self.view_is) ∙ sym c.in-Some.ensures))
 
 pub returns-clause-order : goal.returns-clause-order
 returns-clause-order c =

@@ -17,7 +17,8 @@ returns-in-Some-clause-ok c =
     let wrote = (c.get_mut.follows.holds c.write_in.new.inner).3 (subst (λ o. IsSome o) c.in-Some.ensures.value refl) in
     on_ok c.write_in.result
     (λ put.
-    nested_updates nat_cmp id_order attr_order c.self.inside.tree (c.get_mut.follows.lender c.write_in.new.inner) c.args.e c.args.f c.write_in.new.inner (Some c.args.values) wrote.0
+    nested_updates nat_cmp id_order attr_order c.self.inside.tree
+    (c.get_mut.follows.lender c.write_in.new.inner) c.args.e c.args.f c.write_in.new.inner (Some c.args.values) wrote.0
     (λ j. put j ∙ ap (λ o. cond (is_at (nat_cmp c.args.f) j) (Some c.args.values) (inner_get (λ m. tree.get nat_cmp m j) o)) c.in-Some.ensures.value) nat_order
     ∙ ap (λ m. set m (c.args.e, c.args.f) (Some c.args.values)) c.self.view_is)
     c.write_in.ensures.ok
@@ -35,7 +36,11 @@ returns-in-Some-clause-err c =
 pub returns-in_ok-insert-in-None-clause-ok : goal.returns-in_ok-insert-in-None-clause-ok
 returns-in_ok-insert-in-None-clause-ok c =
     let still : c.get_mut.follows.lender-at-none ≡ c.self.inside.tree = c.get_mut.follows.holds-at-none in
-    nested_updates nat_cmp id_order attr_order c.get_mut.follows.lender-at-none c.insert.new.self c.args.e c.args.f c.write_in-in-None.new.inner (Some c.args.values) c.in_ok-insert-in-None.ensures.updates.0
-    (λ j. c.in_ok-write_in-in-None.ensures.ok j ∙ ap (cond (is_at (nat_cmp c.args.f) j) (Some c.args.values)) (ap (λ es. lookup (is_at (nat_cmp j)) es) c.new-inner.ensures.empty ∙ ap (inner_get (λ m. tree.get nat_cmp m j)) c.in-None.ensures.value ∙ ap (λ t. inner_get (λ m. tree.get nat_cmp m j) (tree.get id_cmp t c.args.e)) (sym still))) nat_order
+    nested_updates nat_cmp id_order attr_order c.get_mut.follows.lender-at-none c.insert.new.self c.args.e c.args.f c.write_in-in-None.new.inner
+    (Some c.args.values) c.in_ok-insert-in-None.ensures.updates.0
+    (λ j. c.in_ok-write_in-in-None.ensures.ok j
+    ∙ ap (cond (is_at (nat_cmp c.args.f) j) (Some c.args.values))
+    (ap (λ es. lookup (is_at (nat_cmp j)) es) c.new-inner.ensures.empty ∙ ap (inner_get (λ m. tree.get nat_cmp m j)) c.in-None.ensures.value
+    ∙ ap (λ t. inner_get (λ m. tree.get nat_cmp m j) (tree.get id_cmp t c.args.e)) (sym still))) nat_order
     ∙ ap (λ t. set (nested id_cmp nat_cmp t) (c.args.e, c.args.f) (Some c.args.values)) still
     ∙ ap (λ m. set m (c.args.e, c.args.f) (Some c.args.values)) c.self.view_is

@@ -11,7 +11,8 @@ use Rattle.step_apply.proofs.groups.Groups.list.Goals as goal
 
 pub returns-in-Root : goal.returns-in-Root
 returns-in-Root c =
-    subst (λ es. IfOk c.list.result (λ l. l ≡ es)) (ap (λ p. in_order entry_cmp (map ranked_entry (entries (standing c.args.self.now p)))) (sym c.in-Root.is)) c.list.ensures
+    subst (λ es. IfOk c.list.result (λ l. l ≡ es))
+    (ap (λ p. in_order entry_cmp (map ranked_entry (entries (standing c.args.self.now p)))) (sym c.in-Root.is)) c.list.ensures
 
 pub returns-in-None : goal.returns-in-None
 returns-in-None c =

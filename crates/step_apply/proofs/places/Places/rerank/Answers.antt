@@ -32,5 +32,6 @@ returns-clause-place c =
     ∙ get-table_of id_order (λ (x : Placed). x.place) c.self.inside.tree e
     ∙ ap (option_map (λ (x : Placed). x.place)) (sym c.in-Some.ensures.value) in
     by_result c.put.result c.put.ensures.place c.put.ensures.err
-    (λ wrote. wrote ∙ (λ i. set old.place (c.in_ok-copy.ensures i) (Some (c.in_ok-place.ensures i))) ∙ set_here id_order old.place e (Some c.in-Some.placed.now.place) stood)
+    (λ wrote. wrote ∙ (λ i. set old.place (c.in_ok-copy.ensures i) (Some (c.in_ok-place.ensures i)))
+    ∙ set_here id_order old.place e (Some c.in-Some.placed.now.place) stood)
     (λ same. ap (λ s. s.place) same)

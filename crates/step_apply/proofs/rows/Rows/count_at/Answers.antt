@@ -15,5 +15,6 @@ returns c =
 
 pub returns-then-is_no_target : goal.returns-then-is_no_target
 returns-then-is_no_target c =
-    none_at c.self.inside.tree c.self.inside.out c.self.inside.into c.self.invariant.0 c.self.invariant.1 c.args.e.now (c.is_bare.ensures c.if-is_bare.true) (c.is_no_target.ensures c.if-is_no_target.true)
+    none_at c.self.inside.tree c.self.inside.out c.self.inside.into c.self.invariant.0 c.self.invariant.1 c.args.e.now
+    (c.is_bare.ensures c.if-is_bare.true) (c.is_no_target.ensures c.if-is_no_target.true)
     ∙ ap (count (λ (e : RowKey × ℕ). (λ (k : RowKey). text_eq c.args.e.now k.0 || text_eq c.args.e.now k.2) e.0)) c.self.view_is

@@ -12,7 +12,8 @@ pub invariant_of-self : goal.invariant_of-self
 invariant_of-self c = (c.put_row.ensures.out c.self.invariant.0, c.put_row.ensures.into c.self.invariant.1)
 
 pub returns-clause-ok : goal.returns-clause-ok
-returns-clause-ok c = subst (λ (r : RowRanks). OnOk c.put_row.result (table row_cmp c.put_row.new.tree ≡ set r c.args.key (Some c.args.rank))) c.self.view_is c.put_row.ensures.ok
+returns-clause-ok c = subst
+    (λ (r : RowRanks). OnOk c.put_row.result (table row_cmp c.put_row.new.tree ≡ set r c.args.key (Some c.args.rank))) c.self.view_is c.put_row.ensures.ok
 
 pub returns-clause-err : goal.returns-clause-err
 returns-clause-err c = on_err c.put_row.result (λ same. (λ i. from_entries (same i)) ∙ c.self.view_is) c.put_row.ensures.err

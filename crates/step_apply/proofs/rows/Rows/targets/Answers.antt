@@ -19,6 +19,8 @@ returns-in-None c =
 pub returns-in-Some : goal.returns-in-Some
 returns-in-Some c =
     subst (λ es. IfOk c.list.result (λ l. l ≡ es))
-    (ap (in_order entry_cmp) (ap (λ m. map ranked_entry (entries m)) c.in-Some.ensures ∙ targets_are c.self.inside.tree c.self.inside.out c.self.invariant.0 c.args.a.now c.args.f)
+    (ap (in_order entry_cmp)
+    (ap (λ m. map ranked_entry (entries m)) c.in-Some.ensures
+    ∙ targets_are c.self.inside.tree c.self.inside.out c.self.invariant.0 c.args.a.now c.args.f)
     ∙ ap (λ m. targets m c.args.a.now c.args.f) c.self.view_is)
     c.list.ensures

@@ -20,7 +20,8 @@ place_of w = w.place
 pub next_bytes-requires : goal.next_bytes-requires
 next_bytes-requires g c = record {
   walked = λ told.
-      let had = subst (λ (o : OpeningState). (made : List Event) × IsReplayed (disk_now (g.H.Host.told c.args.host.now)) o.state o.next made) (sym c.self.view_is) (c.requires.replayed told) in
+      let had = subst (λ (o : OpeningState). (made : List Event) × IsReplayed (disk_now (g.H.Host.told c.args.host.now)) o.state o.next made)
+      (sym c.self.view_is) (c.requires.replayed told) in
       (map event_encoding had.0, had.1.walked);
 }
 
@@ -34,10 +35,13 @@ pub returns-in-Err-clause-damaged : goal.returns-in-Err-clause-damaged
 returns-in-Err-clause-damaged g c = rw c.session_fault.ensures (damage_of c.in-Err.fault
     (λ (at : ℕ). (at ≡ c.self.inside.walk.next) × (IsTrue (g.H.Host.told c.args.host.now).tells → IsStuck (disk_now (g.H.Host.told c.args.host.now)).now at))
     (λ (at : ℕ). IsTrue (g.H.Host.told c.args.host.now).tells → StandsForNone (disk_now (g.H.Host.told c.args.host.now)).now)
-    (λ (at : ℕ). IsTrue (g.H.Host.told c.args.host.now).tells → IsDamaged (disk_now (g.H.Host.told c.args.host.now)).now at × StandsForNoEvents (disk_now (g.H.Host.told c.args.host.now)).now)
+    (λ (at : ℕ). IsTrue (g.H.Host.told c.args.host.now).tells
+    → IsDamaged (disk_now (g.H.Host.told c.args.host.now)).now at × StandsForNoEvents (disk_now (g.H.Host.told c.args.host.now)).now)
     (λ at stuck none told.
-    let had = subst (λ (o : OpeningState). (made : List Event) × IsReplayed (disk_now (g.H.Host.told c.args.host.now)) o.state o.next made) (sym c.self.view_is) (c.requires.replayed told) in
-    stuck_is_damage (disk_now (g.H.Host.told c.args.host.now)) c.self.inside.repo c.self.inside.walk.next at had.0 had.1 (subst (λ (n : ℕ). n < 2 ^ 40) (ap next_of c.in-Err.ensures.err) c.next_bytes.ensures.low) stuck.0 (stuck.1 told) (none told))
+    let had = subst (λ (o : OpeningState). (made : List Event) × IsReplayed (disk_now (g.H.Host.told c.args.host.now)) o.state o.next made)
+    (sym c.self.view_is) (c.requires.replayed told) in
+    stuck_is_damage (disk_now (g.H.Host.told c.args.host.now)) c.self.inside.repo c.self.inside.walk.next at had.0 had.1
+    (subst (λ (n : ℕ). n < 2 ^ 40) (ap next_of c.in-Err.ensures.err) c.next_bytes.ensures.low) stuck.0 (stuck.1 told) (none told))
     c.in-Err.ensures.damaged c.in-Err.ensures.nothing)
 
 pub returns-in-Err-clause-place : goal.returns-in-Err-clause-place
@@ -52,31 +56,39 @@ returns-in-Ok-None-clause-store g c =
     let none = rw c.in-Ok-None.field-0-is at c.in-Ok-None.ensures.none in
     let closed = rw c.in-Ok-None.field-0-is at c.in-Ok-None.ensures.ended in
     let at = subst (λ (o : OpeningState). o.state.end ≡ o.next) (sym c.self.view_is) c.requires.at in
-    rw (sym c.self.view_is) (λ told made had. at_closed_gate (disk_now (g.H.Host.told c.args.host.now)) (disk_now (g.H.Host.told c.next_bytes.new.host)) c.self.inside.repo c.self.inside.walk.next c.next_bytes.new.self.next made had
+    rw (sym c.self.view_is)
+    (λ told made had. at_closed_gate (disk_now (g.H.Host.told c.args.host.now))
+    (disk_now (g.H.Host.told c.next_bytes.new.host)) c.self.inside.repo c.self.inside.walk.next c.next_bytes.new.self.next made had
     (at ∙ sym (ap next_of none)) (closed told (map event_encoding made)))
 
 pub returns-in-Ok-clause-played : goal.returns-in-Ok-clause-played
 returns-in-Ok-clause-played g c =
     let walked = rw c.in-Ok-Some.field-0-is at c.in-Ok-Some.ensures.walked in
     let played = c.in-Ok.ensures.played in
-    rw (sym c.self.view_is) (plays_event (g.H.Host.told c.args.host.now) (g.H.Host.told c.next_bytes.new.host) _ _ c.in-Ok-Some.bytes.items (played.0, played.1, sym c.deref.ensures.value ∙ played.2, played.3) walked)
+    rw (sym c.self.view_is)
+    (plays_event (g.H.Host.told c.args.host.now) (g.H.Host.told c.next_bytes.new.host) _ _ c.in-Ok-Some.bytes.items
+    (played.0, played.1, sym c.deref.ensures.value ∙ played.2, played.3) walked)
 
 pub returns-in-Ok-clause-at : goal.returns-in-Ok-clause-at
 returns-in-Ok-clause-at g c =
     let at = subst (λ (o : OpeningState). o.state.end ≡ o.next) (sym c.self.view_is) c.requires.at in
     let some = rw c.in-Ok-Some.field-0-is at c.in-Ok-Some.ensures.some in
     let played = c.in-Ok.ensures.played in
-    end_on c.self.inside.repo c.replay.new.repo c.self.inside.walk.next c.next_bytes.new.self.next c.in-Ok-Some.bytes.items at (ap next_of some.0) (played.0, played.1, sym c.deref.ensures.value ∙ played.2, played.3)
+    end_on c.self.inside.repo c.replay.new.repo c.self.inside.walk.next c.next_bytes.new.self.next c.in-Ok-Some.bytes.items at (ap next_of some.0)
+    (played.0, played.1, sym c.deref.ensures.value ∙ played.2, played.3)
 
 pub returns-in-Err-NotPlayable-clause-damaged : goal.returns-in-Err-NotPlayable-clause-damaged
 returns-in-Err-NotPlayable-clause-damaged g c = λ told.
-    let had = subst (λ (o : OpeningState). (made : List Event) × IsReplayed (disk_now (g.H.Host.told c.args.host.now)) o.state o.next made) (sym c.self.view_is) (c.requires.replayed told) in
+    let had = subst (λ (o : OpeningState). (made : List Event) × IsReplayed (disk_now (g.H.Host.told c.args.host.now)) o.state o.next made)
+    (sym c.self.view_is) (c.requires.replayed told) in
     let some = rw c.in-Ok-Some.field-0-is at c.in-Ok-Some.ensures.some in
     let walked = rw c.in-Ok-Some.field-0-is at c.in-Ok-Some.ensures.walked in
-    event_is_damage (disk_now (g.H.Host.told c.args.host.now)) c.self.inside.repo c.self.inside.walk.next c.next_bytes.new.self.next c.place.result c.in-Ok-Some.bytes.items had.0 had.1 (omega (arith, ap next_of some.0, c.next_bytes.ensures.low))
+    event_is_damage (disk_now (g.H.Host.told c.args.host.now)) c.self.inside.repo c.self.inside.walk.next c.next_bytes.new.self.next c.place.result
+    c.in-Ok-Some.bytes.items had.0 had.1 (omega (arith, ap next_of some.0, c.next_bytes.ensures.low))
     (c.place.ensures ∙ ap place_of some.0) (ap next_of some.0)
     (λ event can is. (rw c.in-Err-NotPlayable.field-0-is at c.in-Err-NotPlayable.ensures.refused) refl event can (c.deref.ensures.value ∙ is))
-    (subst (λ d. ReadsTo d.now (map event_encoding had.0 ++ c.in-Ok-Some.bytes.items ∷ []) c.next_bytes.new.self.next) (kept_now (g.H.Host.told c.args.host.now) (g.H.Host.told c.next_bytes.new.host) c.next_bytes.ensures.course c.next_bytes.ensures.disk told)
+    (subst (λ d. ReadsTo d.now (map event_encoding had.0 ++ c.in-Ok-Some.bytes.items ∷ []) c.next_bytes.new.self.next)
+    (kept_now (g.H.Host.told c.args.host.now) (g.H.Host.told c.next_bytes.new.host) c.next_bytes.ensures.course c.next_bytes.ensures.disk told)
     (walked told (map event_encoding had.0) had.1.walked).reads)
 
 pub returns-in-Err-NotPlayable-clause-place : goal.returns-in-Err-NotPlayable-clause-place

@@ -17,38 +17,68 @@ records-init g c = record {
 }
 
 pub records-preserved : goal.records-preserved
-records-preserved g c = mounts_on (g.H.Host.told c.args.host.now) (g.H.Host.told c.records.host) (g.H.Host.told c.next_event.new.host) c.records.opening c.records.invariant c.next_event.ensures.course c.next_event.ensures.disk c.next_event.ensures.said c.next_event.ensures.input
+records-preserved g c =
+    mounts_on (g.H.Host.told c.args.host.now) (g.H.Host.told c.records.host)
+    (g.H.Host.told c.next_event.new.host) c.records.opening c.records.invariant c.next_event.ensures.course c.next_event.ensures.disk
+    c.next_event.ensures.said c.next_event.ensures.input
     c.next_event.new.self _ c.in-Ok-Some.ensures.at (rw c.in-Ok-Some.field-0-is at c.in-Ok-Some.ensures.played)
 
 pub records-preserved-in-Ok-Some : goal.records-preserved-in-Ok-Some
-records-preserved-in-Ok-Some g c = mounts_on (g.H.Host.told c.args.host.now) (g.H.Host.told c.records.host) (g.H.Host.told c.next_event.new.host) c.records.opening c.records.invariant c.next_event.ensures.course c.next_event.ensures.disk c.next_event.ensures.said c.next_event.ensures.input
+records-preserved-in-Ok-Some g c =
+    mounts_on (g.H.Host.told c.args.host.now) (g.H.Host.told c.records.host)
+    (g.H.Host.told c.next_event.new.host) c.records.opening c.records.invariant c.next_event.ensures.course c.next_event.ensures.disk
+    c.next_event.ensures.said c.next_event.ensures.input
     c.next_event.new.self _ c.in-Ok-Some.ensures.at (rw c.in-Ok-Some.field-0-is at c.in-Ok-Some.ensures.played)
 
 pub returns-in-Err-next_event-clause-damaged : goal.returns-in-Err-next_event-clause-damaged
 returns-in-Err-next_event-clause-damaged g c = damage_on c.in-Err-next_event.fault
-    (λ (at : ℕ). IsTrue (g.H.Host.told c.records.host).tells → IsDamaged (disk_now (g.H.Host.told c.records.host)).now at × StandsForNoEvents (disk_now (g.H.Host.told c.records.host)).now)
-    (λ (at : ℕ). IsTrue (g.H.Host.told c.args.host.now).tells → IsDamaged (disk_now (g.H.Host.told c.args.host.now)).now at × StandsForNoEvents (disk_now (g.H.Host.told c.args.host.now)).now)
-    (λ at damage told. damage_since (g.H.Host.told c.args.host.now) (g.H.Host.told c.records.host) c.records.invariant.since told at (damage (told_next (g.H.Host.told c.args.host.now) (g.H.Host.told c.records.host) c.records.invariant.course told)))
+    (λ (at : ℕ). IsTrue (g.H.Host.told c.records.host).tells
+    → IsDamaged (disk_now (g.H.Host.told c.records.host)).now at × StandsForNoEvents (disk_now (g.H.Host.told c.records.host)).now)
+    (λ (at : ℕ). IsTrue (g.H.Host.told c.args.host.now).tells
+    → IsDamaged (disk_now (g.H.Host.told c.args.host.now)).now at × StandsForNoEvents (disk_now (g.H.Host.told c.args.host.now)).now)
+    (λ at damage told. damage_since (g.H.Host.told c.args.host.now) (g.H.Host.told c.records.host) c.records.invariant.since told at
+    (damage (told_next (g.H.Host.told c.args.host.now) (g.H.Host.told c.records.host) c.records.invariant.course told)))
     c.in-Err-next_event.ensures.damaged
 
 pub returns-in-Err-next_event-clause-moments : goal.returns-in-Err-next_event-clause-moments
-returns-in-Err-next_event-clause-moments g c = (mounts_since (g.H.Host.told c.args.host.now) (g.H.Host.told c.records.host) (g.H.Host.told c.next_event.new.host) c.records.opening c.records.invariant c.next_event.ensures.course c.next_event.ensures.disk c.next_event.ensures.said c.next_event.ensures.input).moments
+returns-in-Err-next_event-clause-moments g c =
+    (mounts_since (g.H.Host.told c.args.host.now) (g.H.Host.told c.records.host)
+    (g.H.Host.told c.next_event.new.host) c.records.opening c.records.invariant c.next_event.ensures.course c.next_event.ensures.disk
+    c.next_event.ensures.said c.next_event.ensures.input).moments
 
 pub returns-in-Err-next_event-clause-long : goal.returns-in-Err-next_event-clause-long
-returns-in-Err-next_event-clause-long g c = (mounts_since (g.H.Host.told c.args.host.now) (g.H.Host.told c.records.host) (g.H.Host.told c.next_event.new.host) c.records.opening c.records.invariant c.next_event.ensures.course c.next_event.ensures.disk c.next_event.ensures.said c.next_event.ensures.input).long
+returns-in-Err-next_event-clause-long g c =
+    (mounts_since (g.H.Host.told c.args.host.now) (g.H.Host.told c.records.host)
+    (g.H.Host.told c.next_event.new.host) c.records.opening c.records.invariant c.next_event.ensures.course c.next_event.ensures.disk
+    c.next_event.ensures.said c.next_event.ensures.input).long
 
 pub returns-in-Err-next_event-clause-said : goal.returns-in-Err-next_event-clause-said
-returns-in-Err-next_event-clause-said g c = mounts_said (g.H.Host.told c.args.host.now) (g.H.Host.told c.records.host) (g.H.Host.told c.next_event.new.host) c.records.opening c.records.invariant c.next_event.ensures.course c.next_event.ensures.disk c.next_event.ensures.said c.next_event.ensures.input
+returns-in-Err-next_event-clause-said g c =
+    mounts_said (g.H.Host.told c.args.host.now) (g.H.Host.told c.records.host)
+    (g.H.Host.told c.next_event.new.host) c.records.opening c.records.invariant c.next_event.ensures.course c.next_event.ensures.disk
+    c.next_event.ensures.said c.next_event.ensures.input
 
 pub returns-in-Ok-None-clause-moments : goal.returns-in-Ok-None-clause-moments
-returns-in-Ok-None-clause-moments g c = (mounts_since (g.H.Host.told c.args.host.now) (g.H.Host.told c.records.host) (g.H.Host.told c.next_event.new.host) c.records.opening c.records.invariant c.next_event.ensures.course c.next_event.ensures.disk c.next_event.ensures.said c.next_event.ensures.input).moments
+returns-in-Ok-None-clause-moments g c =
+    (mounts_since (g.H.Host.told c.args.host.now) (g.H.Host.told c.records.host)
+    (g.H.Host.told c.next_event.new.host) c.records.opening c.records.invariant c.next_event.ensures.course c.next_event.ensures.disk
+    c.next_event.ensures.said c.next_event.ensures.input).moments
 
 pub returns-in-Ok-None-clause-long : goal.returns-in-Ok-None-clause-long
-returns-in-Ok-None-clause-long g c = (mounts_since (g.H.Host.told c.args.host.now) (g.H.Host.told c.records.host) (g.H.Host.told c.next_event.new.host) c.records.opening c.records.invariant c.next_event.ensures.course c.next_event.ensures.disk c.next_event.ensures.said c.next_event.ensures.input).long
+returns-in-Ok-None-clause-long g c =
+    (mounts_since (g.H.Host.told c.args.host.now) (g.H.Host.told c.records.host)
+    (g.H.Host.told c.next_event.new.host) c.records.opening c.records.invariant c.next_event.ensures.course c.next_event.ensures.disk
+    c.next_event.ensures.said c.next_event.ensures.input).long
 
 pub returns-in-Ok-None-clause-said : goal.returns-in-Ok-None-clause-said
-returns-in-Ok-None-clause-said g c = mounts_said (g.H.Host.told c.args.host.now) (g.H.Host.told c.records.host) (g.H.Host.told c.next_event.new.host) c.records.opening c.records.invariant c.next_event.ensures.course c.next_event.ensures.disk c.next_event.ensures.said c.next_event.ensures.input
+returns-in-Ok-None-clause-said g c =
+    mounts_said (g.H.Host.told c.args.host.now) (g.H.Host.told c.records.host)
+    (g.H.Host.told c.next_event.new.host) c.records.opening c.records.invariant c.next_event.ensures.course c.next_event.ensures.disk
+    c.next_event.ensures.said c.next_event.ensures.input
 
 pub returns-in-Ok-None-clause-opened : goal.returns-in-Ok-None-clause-opened
-returns-in-Ok-None-clause-opened g c = rw c.finish.ensures (mounted (g.H.Host.told c.args.host.now) (g.H.Host.told c.records.host) (g.H.Host.told c.next_event.new.host) c.records.opening c.records.invariant c.next_event.ensures.course c.next_event.ensures.disk c.next_event.ensures.said c.next_event.ensures.input
+returns-in-Ok-None-clause-opened g c =
+    rw c.finish.ensures (mounted (g.H.Host.told c.args.host.now) (g.H.Host.told c.records.host)
+    (g.H.Host.told c.next_event.new.host) c.records.opening c.records.invariant c.next_event.ensures.course c.next_event.ensures.disk
+    c.next_event.ensures.said c.next_event.ensures.input
     c.next_event.new.self.state (rw c.in-Ok-None.field-0-is at c.in-Ok-None.ensures.store))

@@ -16,7 +16,9 @@ pub answer-requires-clause-end : goal.answer-requires-clause-end
 answer-requires-clause-end g c = c.self.invariant.0 (ap broken_of c.self.view_is ∙ c.requires.whole)
 
 pub answer-requires-clause-open : goal.answer-requires-clause-open
-answer-requires-clause-open g c = λ told. subst (λ (s : SessionState). (made : List Event) × IsStoreOf (disk_now (g.H.Host.told c.args.host.now)) s.state made) (sym c.self.view_is) (c.requires.open told)
+answer-requires-clause-open g c =
+    λ told. subst (λ (s : SessionState). (made : List Event) × IsStoreOf (disk_now (g.H.Host.told c.args.host.now)) s.state made) (sym c.self.view_is)
+    (c.requires.open told)
 
 pub answer-requires-clause-all : goal.answer-requires-clause-all
 answer-requires-clause-all g c = c.self.invariant.1

@@ -16,7 +16,9 @@ pub answer_quietly-requires-clause-end : goal.answer_quietly-requires-clause-end
 answer_quietly-requires-clause-end g c = c.self.invariant.0 (ap broken_of c.self.view_is ∙ c.requires.whole)
 
 pub answer_quietly-requires-clause-open : goal.answer_quietly-requires-clause-open
-answer_quietly-requires-clause-open g c = λ told. subst (λ (s : SessionState). (made : List Event) × IsStoreOf (disk_now (g.H.Host.told c.args.host.now)) s.state made) (sym c.self.view_is) (c.requires.open told)
+answer_quietly-requires-clause-open g c =
+    λ told. subst (λ (s : SessionState). (made : List Event) × IsStoreOf (disk_now (g.H.Host.told c.args.host.now)) s.state made) (sym c.self.view_is)
+    (c.requires.open told)
 
 pub answer_quietly-requires-clause-all : goal.answer_quietly-requires-clause-all
 answer_quietly-requires-clause-all g c = c.self.invariant.1

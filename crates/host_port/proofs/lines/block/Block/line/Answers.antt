@@ -6,13 +6,15 @@ use Rattle.host_port.proofs.lines.block.Block.line.Goals.{then-used-ge-BLOCK_LIM
 
 pub returns-clause-step : goal.returns-clause-step
 returns-clause-step g c = λ tells takes line.
-    let f : Found c.args.start c.piece_end.new.self.place c.in_ok-len.len c.piece_end.new.self.pending (g.H.Host.told c.piece_end.new.host).left c.in_ok-len.stop = record {
+    let f : Found c.args.start c.piece_end.new.self.place c.in_ok-len.len c.piece_end.new.self.pending
+    (g.H.Host.told c.piece_end.new.host).left c.in_ok-len.stop = record {
       within_pending = grind (arith, c.in_ok-len.ensures.feed, c.in_ok-len.ensures.all);
       clear = c.in_ok-len.ensures.clear;
       feed = c.in_ok-len.ensures.feed;
       all = c.in_ok-len.ensures.all;
       end = c.in_ok-len.ensures.end tells;
-      near = near_of c.in_ok-len.stop c.piece_end.new.self.place c.in_ok-len.len (length c.piece_end.new.self.pending) (λ h. (c.in_ok-len.ensures.feed h).0) c.in_ok-len.ensures.near c.piece_end.new.self.within;
+      near = near_of c.in_ok-len.stop c.piece_end.new.self.place c.in_ok-len.len (length c.piece_end.new.self.pending)
+          (λ h. (c.in_ok-len.ensures.feed h).0) c.in_ok-len.ensures.near c.piece_end.new.self.within;
       started = grind (arith, c.in_ok-len.ensures.place);
       limit = grind (arith, c.piece_end.new.self.within, c.in_ok-len.ensures.feed, c.in_ok-len.ensures.all);
       far = λ h. far_of c.args.start c.piece_end.new.self.place c.in_ok-len.len c.if-used-ge-BLOCK_LIMIT.longest
@@ -23,6 +25,7 @@ returns-clause-step g c = λ tells takes line.
           (c.in_ok-len.ensures.far h) (grind (arith, c.in_ok-len.ensures.place));
     } in
     rw (sym (c.in_ok-len.ensures.unread tells), sym c.in_ok-len.ensures.place)
-    (block_step_is takes line c.args.start c.piece_end.new.self.place c.line_at.new.unread.place c.in_ok-len.len (read_so_far c.args.self.now) (read_so_far c.line_at.new.self)
+    (block_step_is takes line c.args.start c.piece_end.new.self.place c.line_at.new.unread.place c.in_ok-len.len (read_so_far c.args.self.now)
+    (read_so_far c.line_at.new.self)
     c.piece_end.new.self.pending (g.H.Host.told c.piece_end.new.host).left c.line_at.new.unread.pending c.in_ok-len.stop c.line_at.result f
     c.line_at.ensures.line c.line_at.ensures.pending c.line_at.ensures.place)

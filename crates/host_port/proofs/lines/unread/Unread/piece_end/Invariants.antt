@@ -8,7 +8,8 @@ invariant-pieces g l = record {
   clear : l.clear ≤ length l.self.pending;
   none : (k : ℕ) → k < l.clear → get_or l.self.pending k 0 ≡ 10 → ⊥;
   place : l.self.place ≡ l.initial.self.place;
-  unread : IsTrue (g.H.Host.told l.initial.host).tells → l.self.pending ++ (g.H.Host.told l.host).left ≡ l.initial.self.pending ++ (g.H.Host.told l.initial.host).left;
+  unread : IsTrue (g.H.Host.told l.initial.host).tells
+      → l.self.pending ++ (g.H.Host.told l.host).left ≡ l.initial.self.pending ++ (g.H.Host.told l.initial.host).left;
   course : GoesOn (g.H.Host.told l.initial.host) (g.H.Host.told l.host);
   disk : KeepsDisk (g.H.Host.told l.initial.host) (g.H.Host.told l.host);
   said : KeepsSaid (g.H.Host.told l.initial.host) (g.H.Host.told l.host);
