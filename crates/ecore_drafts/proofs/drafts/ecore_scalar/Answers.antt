@@ -1,3 +1,4 @@
+-- Each data type of Ecore is known by its name: the first that is equal decides.
 use Rattle.std.proofs.Common.{◌≡◌, ◌∙◌, Bool, true, false, refl, sym}
 use Rattle.std.specs.Prelude.{if◌then◌else◌}
 use Rattle.ecore_drafts.specs.declared.drafts.Target.{Target}

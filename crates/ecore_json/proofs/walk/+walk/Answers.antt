@@ -1,3 +1,4 @@
+-- An object, a list of objects and what stands under a key: for each kind of JSON value, the fault that it is left with.
 use Rattle.std.proofs.Common.{◌∙◌, ◌+◌, true, false, sym, ap, drop, string_bytes, option_map}
 use Rattle.serde_json.specs.View.{view, items_view, members_view}
 use Rattle.ecore_json.specs.Walk.{is_before, first_lacking, value_fault, object_fault, array_fault, keys_fault}

@@ -1,3 +1,4 @@
+-- Items answered without their replies, and one line at the end: for each way out, what was printed and what the store holds.
 use Rattle.std.proofs.Common.{◌-◌, ◌+◌, length, arith, ℕ, List, Option, refl, sym, ◌∙◌, ap, false}
 use Rattle.store_session.specs.Session.{answer_to}
 use Rattle.store_runs.proofs.Printing.{accepted_told, untold}

@@ -1,3 +1,4 @@
+-- Each task that words ask for is done over the store; what words ask for nothing end with. The clauses are those of `over_store` by task.
 use Rattle.std.proofs.Common.{◌≡◌, ◌⊎◌, ◌<◌, [], length, inl, inr, refl, subst}
 use Rattle.std.specs.Prelude.{map, string_bytes}
 use Rattle.host_port.specs.Host.{Throughout, AddsPart, disk_now, said_now}

@@ -1,3 +1,4 @@
+-- An element and those inside it: its own values, then a call for each one inside, which is shorter in the JSON tree.
 use Rattle.std.proofs.Common.{◌+◌, [], List, ℕ, refl, sym, ap, ap₂, subst, ◌∙◌, drop, append-nil, true, false, string_bytes}
 use Rattle.std.specs.Borrow.{Bor}
 use Rattle.std.specs.Prelude.{Ok, Option}

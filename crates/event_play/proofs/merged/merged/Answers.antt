@@ -1,3 +1,4 @@
+-- What a merge brings into a workspace by the choices of an event, or the fault of an event that can't be played there.
 use Rattle.std.proofs.Common.{◌≡◌, ◌<◌, ℕ, List, Some, length, map, sym, ◌∙◌, ap, subst, arith}
 use Rattle.footprint.specs.declared.bucket.Bucket.{Bucket}
 use Rattle.history_tree.specs.History.{History, head}

@@ -1,3 +1,4 @@
+-- The rank at the end of the opposite's list: none where there is no opposite, else by whether the list holds one target or many.
 use Rattle.std.proofs.Common.{◌≡◌, true, false, refl, sym, ap, subst, ◌∙◌, ◌++◌}
 use Rattle.std.specs.Prelude.{Some, OnOk, IfOk, IfErr, is_some}
 use Rattle.model_state.specs.Listing.{targets}

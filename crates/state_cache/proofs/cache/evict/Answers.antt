@@ -1,3 +1,4 @@
+-- The states that were used longest ago are given up until the others and the new one fit.
 use Rattle.std.proofs.Common.{◌≡◌, ◌-◌, inl, inr, ℕ, length, ◌≤◌, ap, sym, ◌∙◌, subst, arith}
 use Rattle.lru.specs.LruCache.{LruCache}
 use Rattle.page_pool.specs.Frames.{out_of}

@@ -1,3 +1,4 @@
+-- A row put into the tree and both indexes, or into none where there is no memory.
 use Rattle.std.proofs.Common.{◌≡◌, ℕ, false, refl, sym, ap, subst, ◌∙◌, nat_eq}
 use Rattle.std.specs.Prelude.{Some, None}
 use Rattle.std.specs.BTreeMap as tree

@@ -1,3 +1,4 @@
+-- Event after event printed as lines: for each way out, what was printed and what the store holds.
 use Rattle.std.proofs.Common.{refl, sym, ◌∙◌}
 use Rattle.store_replay.proofs.Endings.{unopened}
 use Rattle.store_replay.proofs.Events.{went_well, went_wrong}

@@ -1,3 +1,4 @@
+-- One item answered, by the gate's refusal or by the session: for each end of it, what was printed and what the store holds.
 use Rattle.std.proofs.Common.{◌≡◌, ◌++◌, List, None, subst}
 use Rattle.std.specs.Prelude.{IsTrue, IfOk, OnOk, IsErrOf, IsSome}
 use Rattle.host_port.specs.Host.{AddsPart, KeepsDisk, Throughout, disk_now, said_now}

@@ -1,3 +1,4 @@
+-- All lines answered: what the loop keeps of them, and what holds when it ends or a call fails.
 use Rattle.std.proofs.Common.{arith, ◌++◌, refl, sym, ◌∙◌}
 use Rattle.host_port.specs.Cut.{script_from}
 use Rattle.host_port.proofs.Course.{rose_second}

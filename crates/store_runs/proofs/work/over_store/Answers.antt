@@ -1,3 +1,4 @@
+-- The store opened and the work done: for each end of both, what was printed and what the store holds.
 use Rattle.std.proofs.Common.{arith, refl, sym, ◌∙◌}
 use Rattle.host_port.specs.Host.{disk_now}
 use Rattle.host_port.proofs.Course.{told_next, rose_second, keeps_input_on, course_on}

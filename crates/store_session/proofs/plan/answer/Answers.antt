@@ -1,3 +1,4 @@
+-- A command answered: its event is in the file before its reply is printed, for each place where a call may fail.
 use Rattle.std.proofs.Common.{ℕ, ◌∙◌, ap, Err}
 use Rattle.commit_journal.specs.Journal.{JournalState}
 use Rattle.host_port.proofs.Course.{adds_none, keeps_disk_on}

@@ -1,3 +1,4 @@
+-- A command carried out without a reply, for each place where a call may fail.
 use Rattle.std.proofs.Common.{ℕ, ◌++◌, sym, ◌∙◌, ap, subst}
 use Rattle.host_port.specs.Host.{disk_now}
 use Rattle.host_port.proofs.Course.{still_disk}

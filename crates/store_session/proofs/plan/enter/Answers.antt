@@ -1,3 +1,4 @@
+-- An event's record written, or its frames given back: what the disk holds at each moment.
 use Rattle.std.proofs.Common.{◌≡◌, ℕ, ◌+◌, length, sym, ◌∙◌, ap, refl, subst, arith}
 use Rattle.std.specs.Prelude.{map}
 use Rattle.host_port.specs.Host.{disk_now}

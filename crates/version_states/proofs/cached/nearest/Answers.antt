@@ -1,3 +1,4 @@
+-- The versions at the end of a path that have no entry, and the state before them: what the loop keeps as it goes back.
 use Rattle.std.proofs.Common.{◌≡◌, ◌≢◌, ◌<◌, ◌++◌, ◌∷◌, [], length, List, ℕ, None, arith, refl, sym, ◌∙◌, ap, subst, reverse, append-nil}
 use Rattle.std.specs.Prelude.{All, nat_eq}
 use Rattle.std.specs.Map.{lookup}

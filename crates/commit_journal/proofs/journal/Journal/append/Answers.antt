@@ -1,3 +1,4 @@
+-- A record is appended, or a write fails on the way: what the disk holds at each moment, before its gate is written and after.
 use Rattle.std.proofs.Common.{◌≡◌, ℕ, ◌+◌, ◌++◌, [], ◌∷◌, false, length, sym, ap, subst, arith}
 use Rattle.host_port.specs.Host.{disk_now}
 use Rattle.commit_journal.specs.Journal.{JournalState, IsAtRest}

@@ -1,3 +1,4 @@
+-- A file is mounted, new or old: for each way out, what the disk holds at each moment, and where the walk over its records stands.
 use Rattle.std.proofs.Common.{ℕ, ◌≡◌, length, arith, ap, ◌∙◌}
 use Rattle.std.specs.Prelude.{IsTrue}
 use Rattle.host_port.specs.Host.{Told, Disk, GoesOn, disk_now, synced}

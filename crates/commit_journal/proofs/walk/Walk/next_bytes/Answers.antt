@@ -1,3 +1,4 @@
+-- The next record is read, or the walk is at the end or at a record that is broken.
 use Rattle.std.proofs.Common.{◌≡◌, ℕ, ◌+◌, List, [], ◌∷◌, ◌++◌, length, take, drop, sym, ◌∙◌, ap, subst, arith}
 use Rattle.std.specs.Prelude.{IsTrue}
 use Rattle.host_port.specs.Host.{Disk, disk_now}

@@ -1,3 +1,4 @@
+-- Words said to a host in memory: all of them, or a part where the call fails.
 use Rattle.std.proofs.Common.{refl, inl, ◌++◌, [], ◌∷◌, length, ℕ, List, ⊎_elim, sym, ◌∙◌, ap, arith}
 use Rattle.std.proofs.lemmas.List.{append-nil, take_all}
 use Rattle.host_port.specs.declared.calls.Call.TheVariants.{Say}

@@ -1,3 +1,4 @@
+-- What a host in memory hands out of its input, what is left of it, and what a failing call leaves.
 use Rattle.std.proofs.Common.{refl, ◌≡◌, ◌+◌, ◌≤◌, ◌++◌, length, take, drop, ℕ, List, sym, ◌∙◌, ap, arith}
 use Rattle.std.proofs.lemmas.List.{length-drop, length-take, nil_from_length, take_rest}
 use Rattle.host_port.proofs.Replaying.{cause_in, quiet_said, quiet_longer, quiet_past_disk, quiet_past_said, quiet_disk, quiet_file, quiet_words}

@@ -1,3 +1,4 @@
+-- A write to the file of a host in memory: the whole of it, or a part where the call fails.
 use Rattle.std.proofs.Common.{refl, inl, ◌++◌, [], ◌∷◌, length, ℕ, List, ⊎_elim, sym, ◌∙◌, ap}
 use Rattle.std.proofs.lemmas.List.{append-nil}
 use Rattle.host_port.specs.declared.calls.Call.TheVariants.{Write}

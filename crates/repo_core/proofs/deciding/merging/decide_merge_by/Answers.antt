@@ -1,3 +1,4 @@
+-- A merge by a plan: refused for want of a choice, or with the event that the choices make.
 use Rattle.std.proofs.Common.{◌≡◌, ℕ, List, [], true, sym, ◌∙◌, ap, subst, refl}
 use Rattle.std.specs.Prelude.{IfOk, unwrap_or}
 use Rattle.std.specs.Fmt.{decimal}

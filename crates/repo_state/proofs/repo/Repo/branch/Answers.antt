@@ -1,3 +1,4 @@
+-- A further branch, or no memory for it: the repository after it is the plain one's, and else as it was.
 use Rattle.std.proofs.Common.{Some, subst}
 use Rattle.op_form.specs.declared.event.Event.TheVariants.{Branch}
 use Rattle.plain_repository.specs.Orderly.{IsOrderly}

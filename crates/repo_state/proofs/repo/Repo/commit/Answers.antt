@@ -1,3 +1,4 @@
+-- A further version, or no memory for it: the repository after it is the plain one's, and else as it was.
 use Rattle.std.proofs.Common.{Some, subst}
 use Rattle.plain_repository.specs.Commits.{version_event}
 use Rattle.plain_repository.specs.Orderly.{IsOrderly}

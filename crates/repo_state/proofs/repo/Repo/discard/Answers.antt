@@ -1,3 +1,4 @@
+-- All that is local dropped: the repository after it is the plain one's, with a model that took it back or none.
 use Rattle.std.proofs.Common.{Some, subst}
 use Rattle.plain_repository.specs.Orderly.{IsOrderly}
 use Rattle.op_form.specs.declared.event.Event.TheVariants.{Discard}

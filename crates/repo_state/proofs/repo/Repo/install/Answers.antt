@@ -1,3 +1,4 @@
+-- Operations recorded in a workspace, with the model after them: the repository after it is the plain one's.
 use Rattle.std.proofs.Common.{Some, subst}
 use Rattle.plain_repository.specs.Orderly.{IsOrderly}
 use Rattle.op_form.specs.declared.event.Event.TheVariants.{Edit}

@@ -1,3 +1,4 @@
+-- The working model handed out: the kept one, or one made of the version's operations and the local ones.
 use Rattle.std.proofs.Common.{◌≡◌, ◌∙◌, Option, Some, true, is_some, sym, ap, subst}
 use Rattle.ecore_meta.specs.Meta.{Meta}
 use Rattle.history_tree.specs.History.{History}

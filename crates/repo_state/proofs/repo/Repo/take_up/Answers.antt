@@ -1,3 +1,4 @@
+-- Operations of another branch added to a workspace, or no memory for them: the repository is the plain one's either way.
 use Rattle.std.proofs.Common.{Some, subst, sym}
 use Rattle.plain_repository.specs.Orderly.{IsOrderly}
 use Rattle.repo_state.specs.Keeping.{plain_of}

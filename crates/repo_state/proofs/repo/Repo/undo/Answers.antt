@@ -1,3 +1,4 @@
+-- The last operation dropped: the repository after it is the plain one's, with a model that took it back or none.
 use Rattle.std.proofs.Common.{Some, subst}
 use Rattle.plain_repository.specs.Orderly.{IsOrderly}
 use Rattle.op_form.specs.declared.event.Event.TheVariants.{Undo}

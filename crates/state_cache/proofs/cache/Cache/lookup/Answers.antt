@@ -1,3 +1,4 @@
+-- A state looked up, found or not: the order of use changes with it, and no frame does.
 use Rattle.std.proofs.Common.{◌≡◌, ℕ, List, length, ap, sym, ◌∙◌, subst, arith}
 use Rattle.std.specs.Prelude.{nat_eq, option_map, Some, Option}
 use Rattle.std.specs.Map.{lookup}

@@ -1,3 +1,4 @@
+-- A state stored: room is made, its frames are filled, and the other states are as they were. Each clause is a lemma of `Storing`.
 use Rattle.std.proofs.Common.{◌≡◌, ◌≤◌, ℕ, length, refl, sym, subst, ◌∙◌, ap, arith}
 use Rattle.std.specs.Prelude.{Result, Ok, Err, OnOk, true}
 use Rattle.std.specs.Result.{is_ok}

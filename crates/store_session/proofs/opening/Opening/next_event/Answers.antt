@@ -1,3 +1,4 @@
+-- The next event read and played, or the first that can't be: where the opening stands then, and which fault it is.
 use Rattle.std.proofs.Common.{◌≡◌, ◌^◌, ◌<◌, ◌++◌, ℕ, List, [], ◌∷◌, arith, length, refl, sym, ◌∙◌, ap, subst}
 use Rattle.std.specs.Prelude.{IsTrue, map}
 use Rattle.host_port.specs.Host.{disk_now}

@@ -1,3 +1,4 @@
+-- All events of the store played: the session is the store's plain repository, or it names the first that can't be played.
 use Rattle.std.proofs.Common.{ℕ, []}
 use Rattle.std.specs.Prelude.{IsTrue}
 use Rattle.host_port.specs.Host.{disk_now}

@@ -1,3 +1,4 @@
+-- One item carried out without a reply: what the session stands for after it, for each fault.
 use Rattle.std.proofs.Common.{Bool, List, sym, ◌∙◌, ap, subst}
 use Rattle.host_port.specs.Host.{disk_now}
 use Rattle.op_form.specs.declared.event.Event.{Event}
