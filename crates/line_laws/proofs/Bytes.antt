@@ -1,12 +1,12 @@
 -- The bytes of a line from a place on, and two lines that are alike through a word.
 use Rattle.std.proofs.Common.{◌≡◌, ℕ, zero, suc, ◌+◌, ◌<◌, ◌≤◌, List, [], ◌∷◌, ◌++◌, length, take, drop, refl, sym, ap, subst, ◌∙◌, true, false, Bool}
-use Rattle.std.proofs.Common.{◌||◌, Option, None, Some, arith, take_all}
+use Rattle.std.proofs.Common.{Option, None, Some, arith, take_all}
 use Rattle.std.specs.List.{list_any, before_first, position_or_len}
 use Rattle.std.proofs.lemmas.List.Folds.{list_any-append}
 use Rattle.std.proofs.Math.Seq.{take-append_seam}
 use Rattle.script_lang.specs.Words.{is_space}
 use Rattle.script_lang.specs.Spelling.{IsLine, is_line_feed}
-use Rattle.script_lang.proofs.WordLemmas.{behind}
+use Rattle.script_lang.proofs.WordLemmas.{behind, neither, space_behind}
 
 -- the bytes from a place on, up to the next space
 abbrev pub word_past : ℕ → List ℕ → List ℕ
@@ -42,21 +42,6 @@ past_word (b ∷ word) past (suc n) rest other is through =
 
 pub whole : (past : ℕ) (rest other : List ℕ) → length rest ≤ past → Through past rest other → other ≡ rest
 whole past rest other le through = sym (take_all past other (through.ends le)) ∙ through.before ∙ take_all past rest le
-
-pub neither : (a b : Bool) → (a || b) ≡ false → (a ≡ false) × (b ≡ false)
-neither true b e = cc
-neither false b e = (refl, e)
-
-first_behind : (next : Option (List ℕ)) → position_or_len is_space (behind next) ≡ 0
-first_behind None = refl
-first_behind (Some rest) = refl
-
--- the first space stands right after the word
-space_behind : (word : List ℕ) → list_any is_space word ≡ false → (next : Option (List ℕ)) → position_or_len is_space (word ++ behind next) ≡ length word
-space_behind [] none next = first_behind next
-space_behind (c ∷ cs) none next =
-    let k = neither (is_space c) (list_any is_space cs) none in
-    rw k.0 (omega (arith, space_behind cs k.1 next))
 
 pub first_word : (word : List ℕ) → list_any is_space word ≡ false → (next : Option (List ℕ)) → before_first is_space (word ++ behind next) ≡ word
 first_word word none next = rw (space_behind word none next) (take-append_seam word (behind next))

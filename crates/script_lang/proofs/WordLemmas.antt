@@ -15,7 +15,7 @@ abbrev pub behind : Option (List ℕ) → List ℕ
 behind None = []
 behind (Some rest) = 32 ∷ rest
 
-neither : (a b : Bool) → (a || b) ≡ false → (a ≡ false) × (b ≡ false)
+pub neither : (a b : Bool) → (a || b) ≡ false → (a ≡ false) × (b ≡ false)
 neither true b e = cc
 neither false b e = (refl, e)
 
@@ -24,7 +24,7 @@ none_first None = refl
 none_first (Some rest) = refl
 
 -- the first space stands right after the word
-space_behind : (word : List ℕ) → list_any is_space word ≡ false → (next : Option (List ℕ)) → position_or_len is_space (word ++ behind next) ≡ length word
+pub space_behind : (word : List ℕ) → list_any is_space word ≡ false → (next : Option (List ℕ)) → position_or_len is_space (word ++ behind next) ≡ length word
 space_behind [] none next = none_first next
 space_behind (c ∷ cs) none next =
     let k = neither (is_space c) (list_any is_space cs) none in

@@ -19,10 +19,11 @@ use Rattle.store_session.specs.Session.{AtDamage}
 use Rattle.store_runs.specs.Endings.{NothingRose, session_status}
 use Rattle.store_runs.specs.declared.status.Status.{Status}
 use Rattle.store_runs.specs.declared.status.Status.TheVariants as ends
+use Rattle.store_session.proofs.Reading.{long_with_record}
 use Rattle.store_replay.specs.Printing.{can_print, said_of, said_of_all}
 use Rattle.store_replay.specs.Endings.{EndsPrinted, IsFoundBroken, IsFoundUnprintable, IsReplay, IsToldInPart, IsUnopenedOrSame, IsWholeScript}
 use Rattle.store_replay.specs.Endings.{KeepsStore, end_of_events}
-use Rattle.store_replay.proofs.Scripts.{long_with_record, not-printable, said-front, said-stop}
+use Rattle.store_replay.proofs.Scripts.{not-printable, said-front, said-stop}
 use Rattle.store_replay.proofs.Walking.{stands_first}
 
 -- ---- the store was not opened

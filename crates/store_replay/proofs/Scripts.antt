@@ -1,11 +1,9 @@
 -- What is printed of events, one after another.
-use Rattle.std.proofs.Common.{◌≡◌, ℕ, ◌+◌, ◌≤◌, ◌<◌, ◌&&◌, not, min, List, [], ◌∷◌, ◌++◌, Bool, true, false, if◌then◌else◌, length, length-append}
+use Rattle.std.proofs.Common.{◌≡◌, ℕ, ◌+◌, ◌≤◌, ◌<◌, ◌&&◌, not, min, List, [], ◌∷◌, ◌++◌, Bool, true, false, if◌then◌else◌, length}
 use Rattle.std.proofs.Common.{take, map, refl, sym, ◌∙◌, ap, subst, append_assoc, append-nil, arith}
 use Rattle.std.specs.Prelude.{IsTrue}
 use Rattle.std.proofs.lemmas.List.{length-take, take-append-le, take_min}
 use Rattle.host_port.specs.Host.{AddsPart}
-use Rattle.commit_journal.specs.Journal.{ReadsTo, header, open_gate, record_of, records}
-use Rattle.commit_journal.proofs.Ends.{length-header, length-record_of, records-push}
 use Rattle.command_runs.specs.Runs.{played}
 use Rattle.command_runs.proofs.Going.{take_past}
 use Rattle.op_form.specs.declared.event.Event.{Event}
@@ -101,21 +99,6 @@ part_within old front bytes more all said n all_is said_is =
     (length front + k, said_is ∙ append_assoc old front (take n bytes) ∙ ap (λ (l : List ℕ). old ++ l) (sym cut))
 
 -- ---- the events of a file
--- a file with a record has more bytes than a new one
-pub long_with_record : (file : List ℕ) (forms : List (List ℕ)) (bytes : List ℕ) (place : ℕ) → ReadsTo file (forms ++ bytes ∷ []) place → 17 < length file
-long_with_record file forms bytes place reads = omega (
-  arith,
-  ap length reads.prefix,
-  length-take place file,
-  length-append header (records (forms ++ bytes ∷ [])),
-  length-header,
-  reads.place_is,
-  ap length (records-push forms bytes),
-  length-append (records forms) (open_gate ∷ []),
-  length-record_of bytes,
-  length-append (records forms) (record_of bytes),
-)
-
 -- events that could be made, of which the encodings of others are the first, have these others first
 pub first_events : (s : State) (events made : List Event) (more : List (List ℕ)) → IsTrue (are_playable s events) → IsTrue (are_playable s made)
     → map event_encoding events ≡ map event_encoding made ++ more → (rest : List Event) × (events ≡ made ++ rest)

@@ -85,7 +85,7 @@ stuck_is_damage disk state place at made replayed low at_is stuck none =
     )
 
 -- a file with a record is longer than a new one
-long_with_record : (file : List ℕ) (forms : List (List ℕ)) (bytes : List ℕ) (place : ℕ) → ReadsTo file (forms ++ bytes ∷ []) place → 17 < length file
+pub long_with_record : (file : List ℕ) (forms : List (List ℕ)) (bytes : List ℕ) (place : ℕ) → ReadsTo file (forms ++ bytes ∷ []) place → 17 < length file
 long_with_record file forms bytes place reads = omega (
   arith,
   ap length reads.prefix,
@@ -222,7 +222,7 @@ module _ (entry now : Told) (since : IsOpenedSince entry now) (told : IsTrue ent
     | inr fresh ↦ absurd (omega (arith, is_long (disk_now now).now damage.1, ap length fresh.1, length-new_file))
   ]
 
-  -- and what the store stands for now it stood for at the entry
+  -- the events that its records hold then are those that they held at the entry
   pub stood_since : (state : State) (made : List Event) → IsStoreOf (disk_now now) state made → StandsForEvents (disk_now entry).now made
   stood_since state made holds = record {
     forms = from_mounted (disk_now entry).now (disk_now now).now (map event_encoding made) (since.file told)
