@@ -1,7 +1,8 @@
 //! The unlinks of a deletion: first of the references out of a subtree, then of those that are left into it.
 ghost use Rattle.std.specs.Prelude.{◌≡◌, ◌++◌, ◌∷◌, [], List as Seq, IfOk, OnOk, map, not};
+ghost use Rattle.std.specs.BTreeSet.{contains};
 ghost use Rattle.std.specs.List.{filter};
-ghost use Rattle.model_state.specs.Keys.{AttrKey};
+ghost use Rattle.model_state.specs.Keys.{AttrKey, attr_cmp};
 ghost use Rattle.model_state.specs.Typing.{opposite_of};
 ghost use Rattle.edit_laws.specs.Rows.{unlinks};
 ghost use Rattle.containment.specs.Deletes.{incoming_left, incoming_made, incoming_unlink, outgoing_made, targets_left};
@@ -18,6 +19,16 @@ use texts::List;
 /// Features of elements.
 pub type Slots = BTreeSet<Slot>;
 
+/// Whether a feature of an element is one of these.
+fn has_slot(alloc: Global, slots: &Slots, e: &Id, f: u32) -> Result<bool, AllocError>
+    ensures { IfOk result (λ r. r ≡ contains attr_cmp slots.now (e.now, f)) }
+{
+    let slot = (e.copy(alloc)?, f);
+    let found = slots.contains(&slot);
+    drop(slot);
+    Ok(found)
+}
+
 /// Whether a row from a to b by f is of one of these features, or the mirror of such a row.
 fn is_reached(
     alloc: Global,
@@ -29,12 +40,12 @@ fn is_reached(
 ) -> Result<bool, AllocError>
     ensures { IfOk result (λ r. r ≡ is_reached meta.now slots.now (a.now, f, b.now)) }
 {
-    if slots.contains(&(a.copy(alloc)?, f)) {
+    if has_slot(alloc, slots, a, f)? {
         return Ok(true);
     }
     match opposite_of(meta, f) {
         None => Ok(false),
-        Some(g) => Ok(slots.contains(&(b.copy(alloc)?, g))),
+        Some(g) => has_slot(alloc, slots, b, g),
     }
 }
 

@@ -80,11 +80,12 @@ impl Many {
     {
         let text = String::from_str(alloc, e.as_str())?;
         let id = e.copy(alloc)?;
-        self.by_id.insert(text, Entry { rank, id })?;
+        drop(self.by_id.insert(text, Entry { rank, id })?);
         match self.by_rank.insert(Entry { rank, id: e }) {
             Ok(_) => Ok(()),
             Err(failed) => {
-                self.by_id.swap_remove(failed.value.id.as_str());
+                drop(self.by_id.swap_remove(failed.value.id.as_str()));
+                drop(failed);
                 Err(AllocError)
             }
         }
@@ -126,6 +127,7 @@ impl Many {
     {
         if let Some(entry) = self.by_id.swap_remove(e.as_str()) {
             self.by_rank.remove(&entry);
+            drop(entry);
         }
     }
 
