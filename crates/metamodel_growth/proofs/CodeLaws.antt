@@ -36,7 +36,7 @@ range_more a (suc n) =
     shift : (a n : ℕ) → a + 1 + n ≡ a + suc n
     shift a n = omega arith
 
-none_less : (k : ℕ) → 0 + k ≡ k
+pub none_less : (k : ℕ) → 0 + k ≡ k
 none_less k = omega arith
 
 -- one number more that is looked up

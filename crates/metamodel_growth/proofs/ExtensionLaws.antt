@@ -152,10 +152,10 @@ module _ (m : Meta) (is : IsMetamodel m) where
       (place_in (features_of m x.owner) j) i j (own_place i x at) second names in
       some_is i j (sym (own_place i x at) ∙ ap (slice_get (features_of m x.owner)) spots ∙ second)
 
-  low_opposite : (f g : ℕ) → end_in (kind_of m f) ≡ Some g → g < length m.features
+  pub low_opposite : (f g : ℕ) → end_in (kind_of m f) ≡ Some g → g < length m.features
   low_opposite f g at = low_kind m.features g end_in f refl (is.ends.both f g at)
 
-  low_enum : (k : ℕ) → 0 < literal_count m k → k < length m.enums
+  pub low_enum : (k : ℕ) → 0 < literal_count m k → k < length m.enums
   low_enum k h = from m.enums k h
     where
       from : (xs : List Enum) (k : ℕ) → 0 < length (option_map_or (λ (x : Enum). x.literals) (slice_get xs k) []) → k < length xs

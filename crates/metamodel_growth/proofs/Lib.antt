@@ -6,3 +6,4 @@ pub mod ExtensionLaws
 pub mod CodeLaws
 pub mod PlaceLaws
 pub mod SameLaws
+pub mod IdentityLaws

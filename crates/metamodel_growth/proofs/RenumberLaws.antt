@@ -37,7 +37,7 @@ pub by_option : {X P : Type 0} (o : Option X) → (o ≡ None → P) → ((x : X
 by_option None f g = f refl
 by_option (Some x) f g = g x refl
 
-got_more : {X : Type 0} (h : ℕ → Option X) (k : ℕ) (ks : List ℕ) (x : X) → h k ≡ Some x → filter_map h (k ∷ ks) ≡ x ∷ filter_map h ks
+pub got_more : {X : Type 0} (h : ℕ → Option X) (k : ℕ) (ks : List ℕ) (x : X) → h k ≡ Some x → filter_map h (k ∷ ks) ≡ x ∷ filter_map h ks
 got_more h k ks x is = ap (λ o. cons_option o (filter_map h ks)) is
 
 -- what is found for each number stands where the number stands

@@ -25,6 +25,10 @@ pub record IsOrder (n : ℕ) (order : List ℕ) : Type 0 where
   pub there : (k : ℕ) → k < n → slice_get order (place_in order k) ≡ Some k
   pub back : (i k : ℕ) → slice_get order i ≡ Some k → (place_in order k ≡ i) × (k < n)
 
+-- each number stands in its own place
+abbrev pub IsIdentity : List ℕ → Type 0
+IsIdentity order = order ≡ range_with_len 0 (length order)
+
 -- each number of the order with its place
 abbrev pub Placed : List ℕ → List ℕ → Type 0
 Placed numbers spots = (length spots ≡ length numbers) × ((k : ℕ) → k < length numbers → slice_get spots k ≡ Some (place_in numbers k))

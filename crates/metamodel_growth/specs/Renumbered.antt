@@ -1,5 +1,5 @@
 -- A metamodel with other numbers.
-use Rattle.std.specs.Prelude.{ℕ, map, slice_get}
+use Rattle.std.specs.Prelude.{ℕ, length, map, slice_get}
 use Rattle.std.specs.List.{filter_map}
 use Rattle.std.specs.Option.{option_map}
 use Rattle.ecore_meta.specs.Meta.{Meta, is_a}
@@ -10,8 +10,20 @@ use Rattle.ecore_meta.specs.declared.meta.Kind.{Kind}
 use Rattle.ecore_meta.specs.declared.meta.Kind.TheVariants.{Attr, AttrMany, Bounded, Free, Contains, Container, Skip}
 use Rattle.ecore_meta.specs.declared.meta.Scalar.{Scalar}
 use Rattle.ecore_meta.specs.declared.meta.Scalar.TheVariants.{Literal}
-use Rattle.metamodel_growth.specs.Order.{place_in, places}
+use Rattle.metamodel_growth.specs.Order.{IsIdentity, IsOrder, place_in, places}
 use Rattle.metamodel_growth.specs.declared.order.Orders.{Orders}
+
+-- each class, each feature and each enum of the metamodel has one place in its order
+pub record AreOrders (meta : Meta) (to : Orders) : Type 0 where
+  pub classes : IsOrder (length meta.classes) to.classes
+  pub features : IsOrder (length meta.features) to.features
+  pub enums : IsOrder (length meta.enums) to.enums
+
+-- each has the place of its number
+pub record AreIdentities (to : Orders) : Type 0 where
+  pub classes : IsIdentity to.classes
+  pub features : IsIdentity to.features
+  pub enums : IsIdentity to.enums
 
 -- a type of values, with its enum's new number
 abbrev pub scalar_moved : Orders → Scalar → Scalar

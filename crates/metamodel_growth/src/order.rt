@@ -1,7 +1,8 @@
 //! Numbers in a new order, each with its place.
-ghost use Rattle.std.specs.Prelude.{◌≡◌, ◌<◌, ◌++◌, ◌∷◌, [], ℕ, IfOk, OnOk, cond, length, map, nat_eq, slice_get, true, ◌^◌};
+ghost use Rattle.std.specs.Prelude.{◌≡◌, ◌<◌, ◌↔◌, ◌++◌, ◌∷◌, [], ℕ, IfOk, IsTrue, OnOk, cond, length, map, nat_eq, slice_get, true, ◌^◌};
 ghost use Rattle.std.specs.List.{list_any};
-ghost use Rattle.metamodel_growth.specs.Order.{IsOrder, IsSetOf, Placed, begun_by, place_in, places};
+ghost use Rattle.metamodel_growth.specs.Order.{IsIdentity, IsOrder, IsSetOf, Placed, begun_by, place_in, places};
+ghost use Rattle.metamodel_growth.specs.Renumbered.{AreIdentities};
 
 use std::alloc::{AllocError, Global};
 use std::collections::BTreeSet;
@@ -32,6 +33,15 @@ pub(crate) struct Orders {
     pub classes: Order,
     pub features: Order,
     pub enums: Order,
+}
+
+impl Orders {
+    /// Whether each class, each feature and each enum keeps its number.
+    pub(crate) fn are_identities(&self) -> bool
+        ensures { IsTrue result ↔ AreIdentities self.now }
+    {
+        self.classes.is_identity() && self.features.is_identity() && self.enums.is_identity()
+    }
 }
 
 fn item_at(items: &[u32], n: u32) -> Option<u32>
@@ -68,6 +78,13 @@ impl Order {
         let _numbers = &self.numbers;
     }
 
+    /// Whether each number keeps its place.
+    fn is_identity(&self) -> bool
+        ensures { IsTrue result ↔ IsIdentity self.now }
+    {
+        stand_in_place(self.numbers.as_slice())
+    }
+
     /// The place of a number; past the end for a number that is none of them.
     pub(crate) fn place(&self, n: u32) -> u32
         ensures { result ≡ place_in self.now n }
@@ -77,6 +94,18 @@ impl Order {
             Some(place) => place,
         }
     }
+}
+
+/// Whether each number stands in its own place.
+fn stand_in_place(numbers: &[u32]) -> bool
+    ensures { IsTrue result ↔ IsIdentity numbers.now }
+{
+    for (i, n) in numbers.iter().enumerate() {
+        if *n as usize != i {
+            return false;
+        }
+    }
+    true
 }
 
 /// The place of each number of an order.

@@ -43,7 +43,7 @@ fn measure_reading(rt: &HostRuntime, document: &str) -> Result<Metamodel> {
     Ok(meta)
 }
 
-fn measure_evolving(rt: &HostRuntime, old: &Metamodel, next: &Metamodel) -> Result<Metamodel> {
+fn measure_evolving(rt: &HostRuntime, old: &Metamodel, next: Metamodel) -> Result<Metamodel> {
     let start = Instant::now(rt)?;
     let Ok(evolved) = evolve(rt.alloc(), old, next) else {
         return Err(TimesFault::Growth.into());
@@ -56,7 +56,7 @@ fn measure_evolving(rt: &HostRuntime, old: &Metamodel, next: &Metamodel) -> Resu
 fn measure_round(rt: &HostRuntime, old: &str, next: &str) -> Result<()> {
     let old = measure_reading(rt, old)?;
     let next = measure_reading(rt, next)?;
-    let evolved = measure_evolving(rt, &old, &next)?;
+    let evolved = measure_evolving(rt, &old, next)?;
     let start = Instant::now(rt)?;
     if !is_same(&evolved, &evolved) {
         return Err(TimesFault::Growth.into());

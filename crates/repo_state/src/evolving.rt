@@ -21,7 +21,7 @@ fn extended(alloc: Global, old: &Metamodel, text: &Text) -> Result<Metamodel, Re
     ensures cannot { IsErrOf result ReplayFault.NotPlayable → can_evolve old.now text.now ≡ false }
 {
     let next = read_meta(alloc, text)?;
-    match evolve(alloc, old, &next) {
+    match evolve(alloc, old, next) {
         Ok(meta) => {
             if is_same(old, &meta) {
                 return Err(ReplayFault::NotPlayable);

@@ -31,11 +31,11 @@ fn evolve_to(
     repo: &Repo,
     begun: &Begun,
     text: &str,
-    next: &Metamodel,
+    next: Metamodel,
 ) -> Result<Decision, AllocError>
     requires meta { repo.now.meta ≡ Some begun.now.meta }
-    requires read { metamodel_of text.now ≡ Ok next.now }
-    ensures decision { IfOk result (λ d. seen d ≡ extended repo.now text.now begun.now.meta next.now (missing begun.now.meta next.now)) }
+    requires read { metamodel_of text.now ≡ Ok next }
+    ensures decision { IfOk result (λ d. seen d ≡ extended repo.now text.now begun.now.meta next (missing begun.now.meta next)) }
     ensures made { IfOk result (λ d. CanMakeIt repo.now d.made) }
 {
     let meta = match evolve(alloc, &begun.meta, next) {
@@ -66,7 +66,7 @@ pub(crate) fn decide_evolve(
     ensures made { IfOk result (λ d. CanMakeIt repo.now d.made) }
 {
     match read_metamodel(alloc, text) {
-        Ok(next) => evolve_to(alloc, repo, begun, text, &next),
+        Ok(next) => evolve_to(alloc, repo, begun, text, next),
         Err(EcoreFault::Memory) => Err(AllocError),
         Err(fault) => Ok(refuse(alloc, Refusal::BadMetamodel { n: fault.number() })),
     }
