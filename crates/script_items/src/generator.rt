@@ -44,6 +44,7 @@ fn push(alloc: Global, items: &mut List<Item>, line: &str) -> Result<(), AllocEr
 }
 
 /// The items before the first round.
+#[tactic(auto, using(crate::proofs::Library::library_same))]
 fn opening(alloc: Global) -> Result<List<Item>, AllocError>
     ensures { IfOk result (λ items. items ≡ opening) }
 {

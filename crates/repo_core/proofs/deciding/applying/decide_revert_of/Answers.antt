@@ -19,12 +19,13 @@ with_operations-requires c =
     let g = c.args.begun.now.history.history in
     let v = c.args.version in
     let w = plain_of c.args.workspace.now in
-    let operations = c.version.result.now.«package» in
-    let at = ap (λ (o : Option Version). option_map_or (λ (x : Version). x.«package») o []) c.version.ensures.version in
+    let operations = c.in_ok-package.«package» in
+    let copied = c.in_ok-package.ensures.copied ∙ c.as_slice.ensures in
+    let at = ap (λ (o : Option Version). option_map_or (λ (x : Version). x.«package») o []) c.version.ensures.version ∙ sym copied in
     let here = ap (λ (h : History). package_at h.versions v) c.requires.history ∙ at in
     let free = ap (λ (h : History). first_interfering meta h.versions (package_at h.versions v) (path_after h v w.base)) c.requires.history
     ∙ ap (λ os. first_interfering meta g.versions os (path_after g v w.base)) at
-    ∙ ap (first_interfering meta g.versions operations) (sym (c.as_slice.ensures ∙ c.in_ok-later.ensures.path))
+    ∙ ap (first_interfering meta g.versions operations) (sym (c.as_slice-2.ensures ∙ c.in_ok-later.ensures.path))
     ∙ sym c.in_ok-found.ensures.first ∙ none_of c.in_ok-found.found (sym c.is_some.ensures ∙ c.if-is_some.false) in
     let apart = ap (λ os. have_pair meta os w.operations) here
     ∙ ap (have_pair meta operations) (sym (c.in_ok-local.ensures.copied ∙ c.operations.ensures)) ∙ sym c.in_ok-have_pair.ensures.found
