@@ -91,7 +91,10 @@ impl Attrs {
         ensures err { OnErr result (self.new ≡ self.old) }
     {
         match self.tree.get_mut(&e) {
-            Some(inner) => write_in(inner, f, values),
+            Some(inner) => {
+                drop(e);
+                write_in(inner, f, values)
+            }
             None => {
                 let mut inner = BTreeMap::new(alloc);
                 write_in(&mut inner, f, values)?;
