@@ -3,3 +3,4 @@ pub mod Far
 pub mod Rises
 pub mod Touching
 pub mod NoneMeets
+pub mod Drained

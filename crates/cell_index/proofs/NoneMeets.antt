@@ -13,7 +13,7 @@ use Rattle.footprint.specs.declared.cell.Cell.{Cell as Held}
 use Rattle.footprint.specs.declared.cell.Print.{Print}
 use Rattle.footprint.specs.Interference.{meets}
 use Rattle.footprint.specs.Prints.{cells}
-use Rattle.cell_index.specs.Near.{row_of, Indexes, IsMet, AllMet, prints_interfere}
+use Rattle.cell_index.specs.Near.{row_of, Listed, IsMet, AllMet, prints_interfere}
 use Rattle.cell_index.specs.declared.listing.CellIndex.{CellIndex}
 use Rattle.cell_index.proofs.Far.{apart, row_same}
 use Rattle.cell_index.proofs.Rises.{first_or_rest}
@@ -24,27 +24,29 @@ use Rattle.cell_index.proofs.Touching.{print_same}
 abbrev pub IsUnlisted : List (Vec ℕ Global) → List Held → ℕ → Type 0
 IsUnlisted table cs k = (h : Held) → Contains cs h → Contains (row_of table h) k → ⊥
 
-module _ (index : CellIndex) (prints : List Print) (p : Print) (w r : List Held) (s t u : List (Vec ℕ Global)) (ix : Indexes index prints)
+module _ (index : CellIndex) (prints : List Print) (p : Print) (w r : List Held) (s t u : List (Vec ℕ Global)) (k : ℕ)
+    (in_writers : (q : Print) → q ≡ get_or prints k q → Listed index.writers.items q.writes k)
+    (in_readers : (q : Print) → q ≡ get_or prints k q → Listed index.readers.items q.reads k)
     (w_is : w ≡ p.writes) (r_is : r ≡ p.reads) (s_is : s ≡ index.writers.items) (t_is : t ≡ index.readers.items) (u_is : u ≡ index.writers.items) where
-  pub far : (k : ℕ) → IsMet prints p k → IsUnlisted s w k → IsUnlisted t w k → IsUnlisted u r k → ⊥
-  far k met ww wr rw' =
+  pub far : IsMet prints p k → IsUnlisted s w k → IsUnlisted t w k → IsUnlisted u r k → ⊥
+  far met ww wr rw' =
       let q : Print = get_or prints k p in
       let q_is : q ≡ get_or prints k q = print_same prints k p q met.low in
       let written : meets (cells p.writes) (cells q.writes) ≡ false =
       apart p.writes q.writes
       (λ h g a b e. ww h (subst (λ l. Contains l h) (sym w_is) a)
       (subst (λ x. Contains (row_of x h) k) (sym s_is)
-      (subst (λ l. Contains l k) (sym (row_same index.writers.items h g e)) (ix.writers k q met.low q_is g b)))) in
+      (subst (λ l. Contains l k) (sym (row_same index.writers.items h g e)) (in_writers q q_is g b)))) in
       let second : meets (cells p.writes) (cells q.reads) ≡ false =
       apart p.writes q.reads
       (λ h g a b e. wr h (subst (λ l. Contains l h) (sym w_is) a)
       (subst (λ x. Contains (row_of x h) k) (sym t_is)
-      (subst (λ l. Contains l k) (sym (row_same index.readers.items h g e)) (ix.readers k q met.low q_is g b)))) in
+      (subst (λ l. Contains l k) (sym (row_same index.readers.items h g e)) (in_readers q q_is g b)))) in
       let first : meets (cells q.writes) (cells p.reads) ≡ false =
       apart q.writes p.reads
       (λ h g a b e. rw' g (subst (λ l. Contains l g) (sym r_is) b)
       (subst (λ x. Contains (row_of x g) k) (sym u_is)
-      (subst (λ l. Contains l k) (row_same index.writers.items h g e) (ix.writers k q met.low q_is h a)))) in
+      (subst (λ l. Contains l k) (row_same index.writers.items h g e) (in_writers q q_is h a)))) in
       true_false (prints_interfere p q) met.meets (λ i. written i || (second i || first i))
 
 -- ---- whether any is met

@@ -1,3 +1,4 @@
 pub mod Keys
 pub mod Near
+pub mod Draining
 pub mod Standing

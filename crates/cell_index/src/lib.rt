@@ -2,6 +2,7 @@
 //! touches it.
 #![tactic(auto)]
 
+mod draining;
 mod keys;
 mod listing;
 mod meeting;

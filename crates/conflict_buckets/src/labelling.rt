@@ -5,7 +5,7 @@ ghost use Rattle.ecore_meta.specs.Meta.{Meta};
 ghost use Rattle.model_state.specs.declared.operation.Operation.{Operation};
 ghost use Rattle.footprint.specs.Prints.{shown, printed};
 ghost use Rattle.footprint.specs.Buckets.{labels};
-ghost use Rattle.cell_index.specs.Near.{Indexes};
+ghost use Rattle.cell_index.specs.Draining.{ListsUnflagged};
 ghost use Rattle.conflict_buckets.specs.Spread.{AreLinked, AreSpread, Further};
 
 use cell_index::{CellIndex, index_of};
@@ -111,18 +111,19 @@ impl Labels {
         &mut self,
         alloc: Global,
         prints: &[Print],
-        index: &CellIndex,
+        index: &mut CellIndex,
         label: u64,
         at: usize,
     ) -> Result<(), AllocError>
-        requires index { Indexes index.now prints.now }
+        requires index { ListsUnflagged index.old prints.now self.old.reached.items [] }
         requires spread { AreSpread prints.now label at self.old.labels.items self.old.reached.items self.old.order.items }
         requires there { at < length self.old.order.items }
         ensures spread { OnOk result (AreSpread prints.now label (at + 1) self.new.labels.items self.new.reached.items self.new.order.items) }
         ensures further { OnOk result (Further self.old.reached.items self.new.reached.items self.old.order.items self.new.order.items) }
+        ensures index { OnOk result (ListsUnflagged index.new prints.now self.new.reached.items []) }
     {
         let place = self.order[at] as usize;
-        let near = index.met(alloc, prints, &prints[place], &self.reached)?;
+        let near = index.take_met(alloc, prints, &prints[place], &self.reached)?;
         self.reach_all(prints, label, &near, at)?;
         Ok(())
     }
@@ -132,13 +133,14 @@ impl Labels {
         &mut self,
         alloc: Global,
         prints: &[Print],
-        index: &CellIndex,
+        index: &mut CellIndex,
         start: u64,
     ) -> Result<(), AllocError>
-        requires index { Indexes index.now prints.now }
+        requires index { ListsUnflagged index.old prints.now self.old.reached.items [] }
         requires spread { AreSpread prints.now start (length self.old.order.items) self.old.labels.items self.old.reached.items self.old.order.items }
         requires there { start < length prints.now }
-        ensures { OnOk result (AreSpread prints.now (start + 1) (length self.new.order.items) self.new.labels.items self.new.reached.items self.new.order.items) }
+        ensures spread { OnOk result (AreSpread prints.now (start + 1) (length self.new.order.items) self.new.labels.items self.new.reached.items self.new.order.items) }
+        ensures index { OnOk result (ListsUnflagged index.new prints.now self.new.reached.items []) }
     {
         if self.reached[start as usize] {
             return Ok(());
@@ -153,15 +155,16 @@ impl Labels {
     }
 }
 
-/// The label of each operation: the least place linked to it. Each operation is passed once, and its cells looked up in the index.
+/// The label of each operation: the least place linked to it. Each operation is passed once. What the index lists under its cells is
+/// taken out there as it is reached, so that it is looked at once for a cell.
 pub(crate) fn labels_of(alloc: Global, prints: &[Print]) -> Result<Vec<u64>, AllocError>
     ensures labels { IfOk result (λ v. (meta : Meta) (ops : List Operation) → shown prints.now ≡ printed meta ops → v.items ≡ labels meta ops) }
     ensures size { IfOk result (λ v. length v.items ≡ length prints.now) }
 {
-    let index = index_of(alloc, prints)?;
+    let mut index = index_of(alloc, prints)?;
     let mut found = Labels::new(alloc, prints)?;
     for start in 0..prints.len() {
-        found.spread(alloc, prints, &index, start as u64)?;
+        found.spread(alloc, prints, &mut index, start as u64)?;
     }
     Ok(found.labels)
 }

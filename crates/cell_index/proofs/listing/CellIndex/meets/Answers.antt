@@ -14,7 +14,8 @@ returns c = record {
       (λ off. meets_none c.args.prints.now c.args.print.now (λ k met.
       far c.args.self.now c.args.prints.now c.args.print.now c.as_slice-writes.result.now c.as_slice-reads.result.now c.deref.result.now
       c.deref-2.result.now c.deref-3.result.now
-      c.requires.index c.as_slice-writes.ensures c.as_slice-reads.ensures c.deref.ensures.value c.deref-2.ensures.value c.deref-3.ensures.value k met
+      k (λ q is. c.requires.index.writers k q met.low is) (λ q is. c.requires.index.readers k q met.low is)
+      c.as_slice-writes.ensures c.as_slice-reads.ensures c.deref.ensures.value c.deref-2.ensures.value c.deref-3.ensures.value met
       (λ h in_h in_row. c.any_met_of.ensures.none c.if-any_met_of.false h in_h k in_row met)
       (λ h in_h in_row. c.any_met_of-2.ensures.none c.if-any_met_of-2.false h in_h k in_row met)
       (λ h in_h in_row. c.any_met_of-3.ensures.none off h in_h k in_row met)));

@@ -1,7 +1,9 @@
 -- all that interfere with it are reached
-use Rattle.std.proofs.Common.{ℕ, Bool, List, false, sym, ap, subst, ◌∙◌, get_or}
+use Rattle.std.proofs.Common.{ℕ, Bool, List, [], false, sym, ap, subst, ◌∙◌, get_or}
 use Rattle.std.specs.List.{Contains}
 use Rattle.std.proofs.lemmas.Grind.{get_or_default_zero}
+use Rattle.cell_index.specs.Draining.{ListsUnflagged}
+use Rattle.cell_index.proofs.Drained.{lists_fewer}
 use Rattle.conflict_buckets.proofs.Spreading.{near_linked, passed_one, all_reached}
 use Rattle.conflict_buckets.proofs.labelling.Labels.pass.Goals as goal
 
@@ -32,3 +34,18 @@ returns-clause-spread c =
     (λ k off met. c.in_ok-near.ensures.found k (ap (λ (l : List Bool). get_or l k false) c.deref.ensures.value ∙ off) met)
     (λ k on. made.all k (subst (λ (l : List ℕ). Contains l k) (sym c.deref-2.ensures.value) on))
     made.further)
+
+pub returns-clause-index : goal.returns-clause-index
+returns-clause-index c =
+    let made = c.in_ok-reach_all.ensures in
+    let flags = c.args.self.now.reached.items in
+    let more = c.reach_all.new.self.reached.items in
+    let taken = c.in_ok-near.near.items in
+    lists_fewer c.take_met.new.self c.args.prints.now flags more taken made.further.kept
+    (λ k on. made.all k (subst (λ (l : List ℕ). Contains l k) (sym c.deref-2.ensures.value) on))
+    (subst (λ (l : List Bool). ListsUnflagged c.take_met.new.self c.args.prints.now l taken) c.deref.ensures.value c.in_ok-near.ensures.index)
+
+pub take_met-requires : goal.take_met-requires
+take_met-requires c = record {
+  index = subst (λ (l : List Bool). ListsUnflagged c.args.index.now c.args.prints.now l []) (sym c.deref.ensures.value) c.requires.index;
+}
