@@ -4,4 +4,5 @@ pub mod Counts
 pub mod Keeping
 pub mod Making
 pub mod Planning
+pub mod Sizes
 pub mod Working

@@ -11,6 +11,7 @@ mod merged;
 mod planning;
 mod recent;
 mod repo;
+mod sizes;
 mod workspace;
 
 pub use fault::ReplayFault;

@@ -16,6 +16,7 @@ ghost use Rattle.repo_state.specs.Working.{IsWorkingModel};
 use crate::fault::{ReplayFault, package_fault};
 use crate::recent::to_keep;
 use crate::repo::{Begun, Repo};
+use crate::sizes::created;
 use crate::workspace::Workspace;
 use ecore_json::{EcoreFault, read_metamodel};
 use ecore_meta::Metamodel;
@@ -175,6 +176,7 @@ impl Repo {
         let Some(_begun) = &self.begun else {
             unreachable!()
         };
+        self.sizes.grow(at, created(package.as_slice()));
         let kept = to_keep(&self.recent, at, model);
         let Some(workspace) = &mut self.workspaces[at] else {
             unreachable!()
@@ -334,5 +336,6 @@ impl Repo {
             unreachable!()
         };
         self.workspaces[at] = None;
+        self.sizes.forget(Some(at));
     }
 }

@@ -5,6 +5,7 @@ ghost use Rattle.plain_repository.specs.State.{is_closed, with_changed, workspac
 ghost use Rattle.repo_state.specs.Planning.{AreTheirs, KeepModel, replaced, restarted, taken_up};
 
 use crate::repo::Repo;
+use crate::sizes::created;
 use model_state::Package;
 use std::alloc::{AllocError, Global};
 
@@ -59,6 +60,7 @@ impl Repo {
             unreachable!()
         };
         begun.meta.sound();
+        self.sizes.grow(at, created(updated.theirs.as_slice()));
         let Some(workspace) = &mut self.workspaces[at] else {
             unreachable!()
         };
@@ -80,6 +82,7 @@ impl Repo {
             unreachable!()
         };
         begun.meta.sound();
+        self.sizes.grow(at, created(merged.more.as_slice()));
         let Some(workspace) = &mut self.workspaces[at] else {
             unreachable!()
         };

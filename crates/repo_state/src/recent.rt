@@ -1,14 +1,16 @@
 //! Which workspaces keep their working models: those that used theirs last.
-ghost use Rattle.std.specs.Prelude.{◌≡◌, ◌≢◌, ℕ, None, Some, IfSome, All, get_or, map, true, false};
+ghost use Rattle.std.specs.Prelude.{◌≡◌, ◌≢◌, ◌<◌, ℕ, None, Some, IfSome, All, get_or, map, true, false};
 ghost use Rattle.std.specs.List.{Contains};
 ghost use Rattle.ecore_meta.specs.Meta.{Meta};
 ghost use Rattle.history_tree.specs.History.{History};
 ghost use Rattle.repo_state.specs.Keeping.{FitsAny, keeps_model, plain_any};
+ghost use Rattle.repo_state.specs.Sizes.{HasRoom};
 
 use crate::repo::Repo;
+use crate::sizes::{MOST_ELEMENTS, Sizes};
 use crate::workspace::Workspace;
 use recently_used::Recent;
-use std::alloc::AllocError;
+use std::alloc::{AllocError, Global};
 use working_model::Working;
 
 /// A workspace, where it is there, doesn't keep its model any more.
@@ -35,6 +37,20 @@ fn forget(workspaces: &mut Vec<Option<Workspace>>, out: Option<usize>)
     }
 }
 
+/// As long as the models that are kept have more elements together than that, the one used longest ago is let go. That of
+/// the workspace at this place stays.
+fn let_go(workspaces: &mut Vec<Option<Workspace>>, sizes: &mut Sizes, at: usize, most: usize)
+    requires { most < usize.MAX }
+    ensures same { map plain_any workspaces.new.items ≡ map plain_any workspaces.old.items }
+    ensures fits { (meta : Meta) (h : History) → All (FitsAny meta h) workspaces.old.items → All (FitsAny meta h) workspaces.new.items }
+    ensures kept { (i : ℕ) → keeps_model (get_or workspaces.new.items i None) ≡ true → keeps_model (get_or workspaces.old.items i None) ≡ true }
+    ensures room { HasRoom sizes.new.sizes.items at most }
+{
+    while let Some(out) = sizes.take_out(at, most) {
+        forget(workspaces, Some(out));
+    }
+}
+
 /// The model, where the place is among those of the workspaces that used theirs last.
 pub(crate) fn to_keep(recent: &Recent, at: usize, model: Working) -> Option<Working>
     ensures same { IfSome result (λ m. m ≡ model) }
@@ -54,6 +70,30 @@ impl Repo {
     {
         let out = self.recent.note(at)?;
         forget(&mut self.workspaces, out);
+        self.sizes.forget(out);
         Ok(())
+    }
+
+    /// The model of the workspace at a place is used now, and is that. As long as the models that are kept are too large
+    /// together, the one used longest ago is let go, but not this one.
+    pub(crate) fn weigh(
+        &mut self,
+        alloc: Global,
+        at: usize,
+        model: &Working,
+    ) -> Result<(), AllocError>
+        ensures same { self.new ≡ self.old }
+    {
+        self.sizes.note(alloc, at, model)?;
+        let_go(&mut self.workspaces, &mut self.sizes, at, MOST_ELEMENTS);
+        Ok(())
+    }
+
+    /// The models of all workspaces but the one at this place are let go, so that their memory is free.
+    pub(crate) fn let_others_go(&mut self, at: usize)
+        ensures same { self.new ≡ self.old }
+    {
+        self.sizes.forget(Some(at));
+        let_go(&mut self.workspaces, &mut self.sizes, at, 0);
     }
 }

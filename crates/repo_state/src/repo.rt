@@ -13,6 +13,7 @@ ghost use Rattle.repo_state.specs.Keeping.{plain_of};
 ghost use Rattle.repo_state.specs.Working.{IsWorkingModel};
 
 use crate::recent::to_keep;
+use crate::sizes::Sizes;
 use crate::workspace::Workspace;
 use commit_journal::FIRST_GATE;
 use ecore_meta::Metamodel;
@@ -34,13 +35,15 @@ pub struct Begun {
     pub upgraded: bool,
 }
 
-/// The metamodel and the history once there are such, the workspaces, and how much of the journal is used. Contracts see all but the models that
-/// workspaces keep, and the places of the workspaces that used theirs last, 64 at most. Each that keeps its model is among these.
+/// The metamodel and the history once there are such, the workspaces, and how much of the journal is used. Contracts see
+/// all but the models that workspaces keep, and what is known of these: the places of the workspaces that used theirs
+/// last, 64 at most, and the sizes. Each workspace that keeps its model is among those.
 #[derive(Drop)]
 pub struct Repo {
     pub(crate) begun: Option<Begun>,
     pub(crate) workspaces: Vec<Option<Workspace>>,
     pub(crate) recent: Recent,
+    pub(crate) sizes: Sizes,
     pub(crate) events: u32,
     pub(crate) end: u64,
 }
@@ -67,6 +70,7 @@ impl Repo {
             begun: None,
             workspaces: Vec::new(alloc),
             recent: Recent::new(alloc),
+            sizes: Sizes::new(alloc),
             events: 0,
             end: FIRST_GATE,
         }
@@ -178,8 +182,8 @@ impl Repo {
         Some(ws as usize - 1)
     }
 
-    /// The working model of a workspace, which doesn't keep it meanwhile. Of the other workspaces those that were used last keep theirs.
-    #[tactic(auto, using(version_states::proofs::Caching::uses_none))]
+    /// The working model of a workspace, which doesn't keep it meanwhile. Of the other workspaces those that were used last
+    /// keep theirs, but where memory runs out: then all others are let go, and the model is made once more.
     pub fn take_model(
         &mut self,
         alloc: Global,
@@ -198,8 +202,35 @@ impl Repo {
         let Some(at) = self.place_of(ws) else {
             unreachable!()
         };
+        if let Ok(model) = self.model_at(alloc, cache, pool, ws, at) {
+            return Ok(model);
+        }
+        self.let_others_go(at);
+        self.model_at(alloc, cache, pool, ws, at)
+    }
+
+    /// The same, at its place and without a second try.
+    #[tactic(auto, using(version_states::proofs::Caching::uses_none))]
+    fn model_at(
+        &mut self,
+        alloc: Global,
+        cache: &mut Cache,
+        pool: &mut Pool,
+        ws: u32,
+        at: usize,
+    ) -> Result<Working, AllocError>
+        requires there { is_some (workspace_of self.old ws) ≡ true }
+        requires usable { MayUse pool.old cache.old }
+        requires forms { HasForms self.old pool.old cache.old }
+        ensures same { self.new ≡ self.old }
+        ensures model { IfOk result (λ m. IsWorkingModel self.old ws m) }
+        ensures uses { Uses pool.old pool.new cache.old cache.new }
+        ensures forms { HasForms self.old pool.new cache.new }
+    {
         self.touch(at)?;
-        self.model_out(alloc, cache, pool, ws)
+        let model = self.model_out(alloc, cache, pool, ws)?;
+        self.weigh(alloc, at, &model)?;
+        Ok(model)
     }
 
     /// The same, of a workspace that was counted among those that used theirs last.

@@ -1,0 +1,12 @@
+-- How many elements the models have that are kept.
+use Rattle.std.specs.Prelude.{◌≡◌, ℕ, ◌+◌, ◌≤◌, List, [], ◌∷◌, ◌⊎◌, map, sum}
+use Rattle.repo_state.specs.declared.sizes.Size.{Size}
+
+-- how many elements models have together, by their sizes
+abbrev pub together : List Size → ℕ
+together sizes = sum (map (λ s. s.counted + s.created) sizes)
+
+-- the models have together at most so many elements, or the one used longest ago is of the workspace at that place
+abbrev pub HasRoom : List Size → ℕ → ℕ → Type 0
+HasRoom [] at most = Unit {0}
+HasRoom (size ∷ sizes) at most = (size.at ≡ at) ⊎ (together (size ∷ sizes) ≤ most)
