@@ -242,7 +242,10 @@ impl Workspace {
             unreachable!()
         };
         let model = match self.model.take() {
-            None => None,
+            None => {
+                drop(operation);
+                None
+            }
             Some(model) => model_before_one(alloc, meta, model, operation),
         };
         self.model = model;
