@@ -321,9 +321,11 @@ fn make(
     ensures forms { HasForms repo.new pool.new cache.new }
 {
     if repo.is_full() || size as u64 > MOST_BYTES {
+        drop(event);
         return Err(ReplayFault::NotPlayable);
     }
     if !suits(repo, &event) || !could(repo, &event) {
+        drop(event);
         return Err(ReplayFault::NotPlayable);
     }
     repo.orderly();
