@@ -167,6 +167,7 @@ fn stays(alloc: Global, evolved: &Metamodel) -> Result<bool, Fail> {
 fn numbers_are_kept(rt: HostRuntime) -> Result<(), Fail> {
     let old = metamodel(rt.alloc(), "library")?;
     let evolved = grown(rt.alloc(), &old)?;
+    drop(old);
     check_names(&rt, rt.alloc(), &evolved)?;
     let stays = stays(rt.alloc(), &evolved)?;
     assert!(rt; stays);

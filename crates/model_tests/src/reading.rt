@@ -231,16 +231,24 @@ fn gone(alloc: Global, words: &mut Words) -> Result<Step, Fail> {
 }
 
 // A place that is left, and one that is entered.
-fn two_places(alloc: Global, from: &str, to: &str) -> Result<(Place, Place), Fail> {
-    let from = place(alloc, from)?;
-    let to = place(alloc, to)?;
+fn two_places(alloc: Global, from: &str, to: &str) -> Result<(Boxed<Place>, Boxed<Place>), Fail> {
+    let from = Boxed::new(alloc, place(alloc, from)?)?;
+    let to = Boxed::new(alloc, place(alloc, to)?)?;
     Ok((from, to))
 }
 
+// Containers, in a box.
+fn boxed_containers(alloc: Global, word: &str) -> Result<Boxed<List<Id>>, Fail> {
+    Ok(Boxed::new(alloc, containers(alloc, word)?)?)
+}
+
 // The containers of both places of a move.
-fn both_containers(alloc: Global, words: &mut Words) -> Result<(List<Id>, List<Id>), Fail> {
-    let above_from = containers(alloc, words.word())?;
-    let above_to = containers(alloc, words.word())?;
+fn both_containers(
+    alloc: Global,
+    words: &mut Words,
+) -> Result<(Boxed<List<Id>>, Boxed<List<Id>>), Fail> {
+    let above_from = boxed_containers(alloc, words.word())?;
+    let above_to = boxed_containers(alloc, words.word())?;
     Ok((above_from, above_to))
 }
 
@@ -254,12 +262,12 @@ fn move_element(alloc: Global, words: &mut Words) -> Result<Step, Fail> {
     let (above_from, above_to) = both_containers(alloc, words)?;
     Ok(Step::Move {
         e: id(alloc, e)?,
-        from: Boxed::new(alloc, from)?,
+        from,
         from_rank,
-        to: Boxed::new(alloc, to)?,
+        to,
         to_rank,
-        above_from: Boxed::new(alloc, above_from)?,
-        above_to: Boxed::new(alloc, above_to)?,
+        above_from,
+        above_to,
     })
 }
 

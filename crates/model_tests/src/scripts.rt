@@ -115,6 +115,22 @@ fn fault_of(alloc: Global, event: &Event) -> Result<Option<PrintFault>, Fail> {
     Ok(line_of(alloc, None, event).err())
 }
 
+// The same, of an event with a text.
+fn fault_of_text(alloc: Global, kind: &str, text: Text) -> Result<Option<PrintFault>, Fail> {
+    let event = event_of(alloc, kind, text)?;
+    let found = fault_of(alloc, &event);
+    drop(event);
+    found
+}
+
+// The same, of a long edit.
+fn fault_of_edit(alloc: Global, count: usize) -> Result<Option<PrintFault>, Fail> {
+    let event = long_edit(alloc, count)?;
+    let found = fault_of(alloc, &event);
+    drop(event);
+    found
+}
+
 fn check_lines(
     rt: &impl Abort,
     alloc: Global,
@@ -143,7 +159,9 @@ fn check_event(rt: &impl Abort, alloc: Global, history: &History, line: &str) ->
     let digits = text.replace(alloc, " ", "")?;
     let bytes = hex::decode(alloc, digits.as_str())?;
     let event = decode_event(alloc, bytes.as_slice())?;
-    check_lines(rt, alloc, history, &event, wanted)
+    let checked = check_lines(rt, alloc, history, &event, wanted);
+    drop(event);
+    checked
 }
 
 #[test]
@@ -160,13 +178,17 @@ fn events_have_their_lines(rt: HostRuntime) -> Result<(), Fail> {
 fn a_script_holds_what_it_can_cut_again(rt: HostRuntime) -> Result<(), Fail> {
     let alloc = rt.alloc();
     for (kind, front, count, end, held) in TEXTS {
-        let event = event_of(alloc, kind, filled(alloc, front, count, end)?)?;
+        let text = filled(alloc, front, count, end)?;
         let wanted = if held {
             None
         } else {
             Some(PrintFault::NotPrintable)
         };
-        assert_eq!(&rt; fault_of(alloc, &event)?, wanted, "{kind} {front} {count}");
+        assert_eq!(&rt;
+            fault_of_text(alloc, kind, text)?,
+            wanted,
+            "{kind} {front} {count}"
+        );
     }
     Ok(())
 }
@@ -174,9 +196,9 @@ fn a_script_holds_what_it_can_cut_again(rt: HostRuntime) -> Result<(), Fail> {
 #[test]
 fn a_package_has_4194303_bytes_at_most(rt: HostRuntime) -> Result<(), Fail> {
     let alloc = rt.alloc();
-    let last = long_edit(alloc, 4194303 - PACKAGE_FRONT)?;
-    assert_eq!(&rt; fault_of(alloc, &last)?, None);
-    let next = long_edit(alloc, 4194304 - PACKAGE_FRONT)?;
-    assert_eq!(&rt; fault_of(alloc, &next)?, Some(PrintFault::TooLong));
+    let last = fault_of_edit(alloc, 4194303 - PACKAGE_FRONT)?;
+    assert_eq!(&rt; last, None);
+    let next = fault_of_edit(alloc, 4194304 - PACKAGE_FRONT)?;
+    assert_eq!(&rt; next, Some(PrintFault::TooLong));
     Ok(())
 }
