@@ -102,9 +102,12 @@ fn serve_lines<H: Host, G: Gate>(
             }
             Ok(Some(item)) => {
                 if item.is_skipped() {
+                    drop(item);
                     continue;
                 }
-                match answer_item(alloc, host, session, gate, &item) {
+                let answered = answer_item(alloc, host, session, gate, &item);
+                drop(item);
+                match answered {
                     Ok(answered) => refused = refused_so_far(refused, answered),
                     Err(fault) => return status_of(fault),
                 }

@@ -48,8 +48,8 @@ returns-in-Ok-None-clause-done g c =
     c.next_item.ensures.course c.next_item.ensures.disk c.next_item.ensures.said made holds (rw c.in-Ok-None.field-0-is at c.in-Ok-None.ensures.item)
     (rw c.in-Ok-None.field-0-is at c.in-Ok-None.ensures.end) c.if-refused.false
 
-pub answer_item-requires-clause-open : goal.answer_item-requires-clause-open
-answer_item-requires-clause-open g c =
+pub answer_item-answered-requires-clause-open : goal.answer_item-answered-requires-clause-open
+answer_item-answered-requires-clause-open g c =
     open_for (gated (g.G.Gate.refusal c.args.gate.now)) (g.H.Host.told c.args.host.now) (g.H.Host.told c.commands.host)
     (g.H.Host.told c.next_item.new.host) c.args.session.now.state
     (script_from takes_block c.args.lines.now.place (c.args.lines.now.pending ++ (g.H.Host.told c.args.host.now).left)) c.commands.lines.failed
@@ -57,8 +57,8 @@ answer_item-requires-clause-open g c =
     c.next_item.ensures.course c.next_item.ensures.disk c.next_item.ensures.said
     c.in-Ok-Some.item c.next_item.new.lines.place c.next_item.new.lines.pending (rw c.in-Ok-Some.field-0-is at c.in-Ok-Some.ensures.item)
 
-pub answer_item-requires-clause-read : goal.answer_item-requires-clause-read
-answer_item-requires-clause-read g c = sym c.is_skipped.ensures ∙ c.if-is_skipped.false
+pub answer_item-answered-requires-clause-read : goal.answer_item-answered-requires-clause-read
+answer_item-answered-requires-clause-read g c = sym c.is_skipped.ensures ∙ c.if-is_skipped.false
 
 pub commands-preserved-then-is_skipped : goal.commands-preserved-then-is_skipped
 commands-preserved-then-is_skipped g c =
@@ -72,8 +72,8 @@ commands-preserved-then-is_skipped g c =
     (gated_skipped c.commands.session.state c.in-Ok-Some.item (sym c.is_skipped.ensures ∙ c.if-is_skipped.true)
     (g.G.Gate.refusal c.args.gate.now c.commands.session.state c.in-Ok-Some.item.line))
 
-pub returns-in-Err-answer_item-clause-done : goal.returns-in-Err-answer_item-clause-done
-returns-in-Err-answer_item-clause-done g c =
+pub returns-in-Err-answered-clause-done : goal.returns-in-Err-answered-clause-done
+returns-in-Err-answered-clause-done g c =
     λ made holds. rw c.status_of.ensures
     (step_fault_done (gated (g.G.Gate.refusal c.args.gate.now)) (g.H.Host.told c.args.host.now) (g.H.Host.told c.commands.host)
     (g.H.Host.told c.next_item.new.host) c.args.session.now.state
@@ -81,29 +81,13 @@ returns-in-Err-answer_item-clause-done g c =
     c.commands.lines.place c.commands.lines.pending c.commands.refused c.commands.session.state c.commands.session.broken c.commands.invariant
     c.next_item.ensures.course c.next_item.ensures.disk c.next_item.ensures.said
     c.in-Ok-Some.item c.next_item.new.lines.place c.next_item.new.lines.pending (rw c.in-Ok-Some.field-0-is at c.in-Ok-Some.ensures.item)
-    (g.H.Host.told c.answer_item.new.host)
-    (gated (g.G.Gate.refusal c.args.gate.now) c.commands.session.state c.in-Ok-Some.item) refl c.answer_item.ensures.course
-    c.answer_item.ensures.part c.answer_item.ensures.moments c.answer_item.ensures.still c.in-Err-answer_item.fault
-    c.answer_item.new.session.state c.in-Err-answer_item.ensures.added c.in-Err-answer_item.ensures.never
-    (λ is. c.in-Err-answer_item.ensures.memory (rw is refl))
-    (λ is. (c.in-Err-answer_item.ensures.unsaid (rw is refl), c.in-Err-answer_item.ensures.event (rw is refl)))
-    (λ told_d. g.met.H.Host.now_is_left c.answer_item.new.host (g.H.Host.told c.answer_item.new.host).clock told_d (omega arith)) made holds)
-
-pub commands-preserved-in-Ok : goal.commands-preserved-in-Ok
-commands-preserved-in-Ok g c =
-    serving_on (gated (g.G.Gate.refusal c.args.gate.now)) (g.H.Host.told c.args.host.now) (g.H.Host.told c.commands.host)
-    (g.H.Host.told c.next_item.new.host) c.args.session.now.state
-    (script_from takes_block c.args.lines.now.place (c.args.lines.now.pending ++ (g.H.Host.told c.args.host.now).left)) c.commands.lines.failed
-    c.commands.lines.place c.commands.lines.pending c.commands.refused c.commands.session.state c.commands.session.broken c.commands.invariant
-    c.next_item.ensures.course c.next_item.ensures.disk c.next_item.ensures.said
-    c.in-Ok-Some.item c.next_item.new.lines.place c.next_item.new.lines.pending (rw c.in-Ok-Some.field-0-is at c.in-Ok-Some.ensures.item)
-    (g.H.Host.told c.answer_item.new.host)
-    (gated (g.G.Gate.refusal c.args.gate.now) c.commands.session.state c.in-Ok-Some.item) refl c.answer_item.ensures.course
-    c.answer_item.ensures.part c.answer_item.ensures.moments c.answer_item.ensures.still c.next_item.new.lines.failed
-    c.answer_item.new.session.state c.answer_item.new.session.broken _ c.in-Ok-Some.ensures.fresh c.in-Ok.ensures.whole c.answer_item.ensures.input
-    (sym (c.refused_so_far-refused.ensures
-    (gated (g.G.Gate.refusal c.args.gate.now) c.commands.session.state c.in-Ok-Some.item).refused c.in-Ok.ensures.refused)) c.in-Ok.ensures.state
-    c.in-Ok.ensures.replied c.in-Ok.ensures.added
+    (g.H.Host.told c.answer_item-answered.new.host)
+    (gated (g.G.Gate.refusal c.args.gate.now) c.commands.session.state c.in-Ok-Some.item) refl c.answer_item-answered.ensures.course
+    c.answer_item-answered.ensures.part c.answer_item-answered.ensures.moments c.answer_item-answered.ensures.still c.in-Err-answered.fault
+    c.answer_item-answered.new.session.state c.in-Err-answered.ensures.added c.in-Err-answered.ensures.never
+    (λ is. c.in-Err-answered.ensures.memory (rw is refl))
+    (λ is. (c.in-Err-answered.ensures.unsaid (rw is refl), c.in-Err-answered.ensures.event (rw is refl)))
+    (λ told_d. g.met.H.Host.now_is_left c.answer_item-answered.new.host (g.H.Host.told c.answer_item-answered.new.host).clock told_d (omega arith)) made holds)
 
 pub commands-preserved : goal.commands-preserved
 commands-preserved g c =
@@ -113,10 +97,11 @@ commands-preserved g c =
     c.commands.lines.place c.commands.lines.pending c.commands.refused c.commands.session.state c.commands.session.broken c.commands.invariant
     c.next_item.ensures.course c.next_item.ensures.disk c.next_item.ensures.said
     c.in-Ok-Some.item c.next_item.new.lines.place c.next_item.new.lines.pending (rw c.in-Ok-Some.field-0-is at c.in-Ok-Some.ensures.item)
-    (g.H.Host.told c.answer_item.new.host)
-    (gated (g.G.Gate.refusal c.args.gate.now) c.commands.session.state c.in-Ok-Some.item) refl c.answer_item.ensures.course
-    c.answer_item.ensures.part c.answer_item.ensures.moments c.answer_item.ensures.still c.next_item.new.lines.failed
-    c.answer_item.new.session.state c.answer_item.new.session.broken _ c.in-Ok-Some.ensures.fresh c.in-Ok.ensures.whole c.answer_item.ensures.input
+    (g.H.Host.told c.answer_item-answered.new.host)
+    (gated (g.G.Gate.refusal c.args.gate.now) c.commands.session.state c.in-Ok-Some.item) refl c.answer_item-answered.ensures.course
+    c.answer_item-answered.ensures.part c.answer_item-answered.ensures.moments c.answer_item-answered.ensures.still c.next_item.new.lines.failed
+    c.answer_item-answered.new.session.state c.answer_item-answered.new.session.broken _ c.in-Ok-Some.ensures.fresh c.in-Ok.ensures.whole
+    c.answer_item-answered.ensures.input
     (sym (c.refused_so_far-refused.ensures
     (gated (g.G.Gate.refusal c.args.gate.now) c.commands.session.state c.in-Ok-Some.item).refused c.in-Ok.ensures.refused)) c.in-Ok.ensures.state
     c.in-Ok.ensures.replied c.in-Ok.ensures.added
