@@ -31,7 +31,9 @@ pub(crate) fn event_said(alloc: Global, repo: &Repo, played: &Played) -> Result<
     ensures { IfOk result (λ said. (was : IsPlayed repo.now played.now) → (said.bytes.items ≡ said_of was.before was.event) × (said.printable ≡ can_print was.before was.event)) }
 {
     let event = played.event(alloc)?;
-    said_over(alloc, repo, &event)
+    let said = said_over(alloc, repo, &event);
+    drop(event);
+    said
 }
 
 /// The same of the event itself.

@@ -85,6 +85,11 @@ pub fn tools<H: Host>(alloc: Global, words: &[String], host: &mut H) -> Status
     match asked {
         None => Status::BadWords,
         Some(Request::Replay) => replay_store(alloc, host),
-        Some(Request::Work(tool)) => over_store(alloc, &Asked { tool }, host),
+        Some(Request::Work(tool)) => {
+            let work = Asked { tool };
+            let status = over_store(alloc, &work, host);
+            drop(work);
+            status
+        }
     }
 }

@@ -23,73 +23,73 @@ use Rattle.tools_top.proofs.top.tools.Goals as goal
 pub returns-in-Some-Work-clause-ends : goal.returns-in-Some-Work-clause-ends
 returns-in-Some-Work-clause-ends g c = λ told tool first stood asks.
     let old = g.H.Host.told c.args.host.now in
-    let new = g.H.Host.told c.over_store.new.host in
+    let new = g.H.Host.told c.over_store-status.new.host in
     let words = map string_bytes c.args.words.now in
     let asked = rw c.in-Some-Work.field-0-is at (rw c.in-Some-Work.is at c.in-Ok.ensures) in
-    for_each (λ t. Ends (task_of t (played play empty first) old.left) first old new c.over_store.result)
-    words c.in-Some-Work.tool asked (c.over_store.ensures.ends told first stood) tool asks
+    for_each (λ t. Ends (task_of t (played play empty first) old.left) first old new c.over_store-status.result)
+    words c.in-Some-Work.tool asked (c.over_store-status.ensures.ends told first stood) tool asks
 
 pub returns-in-Some-Work-clause-part : goal.returns-in-Some-Work-clause-part
 returns-in-Some-Work-clause-part g c = λ tool first stood asks.
     let old = g.H.Host.told c.args.host.now in
-    let new = g.H.Host.told c.over_store.new.host in
+    let new = g.H.Host.told c.over_store-status.new.host in
     let words = map string_bytes c.args.words.now in
     let asked = rw c.in-Some-Work.field-0-is at (rw c.in-Some-Work.is at c.in-Ok.ensures) in
     for_each (λ t. Throughout old new (λ disk said. AddsPart (said_now old) (replies (task_of t (played play empty first) old.left).answers) said))
-    words c.in-Some-Work.tool asked (c.over_store.ensures.part first stood) tool asks
+    words c.in-Some-Work.tool asked (c.over_store-status.ensures.part first stood) tool asks
 
 pub returns-in-Some-Work-clause-moments : goal.returns-in-Some-Work-clause-moments
 returns-in-Some-Work-clause-moments g c = λ tool first stood asks.
     let old = g.H.Host.told c.args.host.now in
-    let new = g.H.Host.told c.over_store.new.host in
+    let new = g.H.Host.told c.over_store-status.new.host in
     let words = map string_bytes c.args.words.now in
     let asked = rw c.in-Some-Work.field-0-is at (rw c.in-Some-Work.is at c.in-Ok.ensures) in
     for_each
     (λ t.
     let answers = (task_of t (played play empty first) old.left).answers in
     Throughout old new (IsOpenedRunning (disk_now old) StandsForEvents first (events answers) (events_due answers) (said_now old)))
-    words c.in-Some-Work.tool asked (c.over_store.ensures.moments first stood) tool asks
+    words c.in-Some-Work.tool asked (c.over_store-status.ensures.moments first stood) tool asks
 
 pub returns-in-Some-Work-clause-stopped : goal.returns-in-Some-Work-clause-stopped
 returns-in-Some-Work-clause-stopped g c = λ told tool first stood asks.
     let old = g.H.Host.told c.args.host.now in
-    let new = g.H.Host.told c.over_store.new.host in
+    let new = g.H.Host.told c.over_store-status.new.host in
     let words = map string_bytes c.args.words.now in
     let asked = rw c.in-Some-Work.field-0-is at (rw c.in-Some-Work.is at c.in-Ok.ensures) in
     for_each (λ t. IsKept (task_of t (played play empty first) old.left) first old new)
-    words c.in-Some-Work.tool asked (c.over_store.ensures.stopped told first stood) tool asks
+    words c.in-Some-Work.tool asked (c.over_store-status.ensures.stopped told first stood) tool asks
 
 pub returns-in-Some-Work-clause-complete : goal.returns-in-Some-Work-clause-complete
 returns-in-Some-Work-clause-complete g c = λ told tool first stood asks none.
     let old = g.H.Host.told c.args.host.now in
-    let new = g.H.Host.told c.over_store.new.host in
+    let new = g.H.Host.told c.over_store-status.new.host in
     let words = map string_bytes c.args.words.now in
     let asked = rw c.in-Some-Work.field-0-is at (rw c.in-Some-Work.is at c.in-Ok.ensures) in
-    for_each (λ t. (c.over_store.result ≡ (task_of t (played play empty first) old.left).end) ⊎ (c.over_store.result ≡ Memory))
-    words c.in-Some-Work.tool asked (c.over_store.ensures.complete told first stood none) tool asks
+    for_each (λ t. (c.over_store-status.result ≡ (task_of t (played play empty first) old.left).end) ⊎ (c.over_store-status.result ≡ Memory))
+    words c.in-Some-Work.tool asked (c.over_store-status.ensures.complete told first stood none) tool asks
 
 pub returns-in-Some-Work-clause-unread : goal.returns-in-Some-Work-clause-unread
 returns-in-Some-Work-clause-unread g c = λ tool first stood asks.
     let old = g.H.Host.told c.args.host.now in
-    let new = g.H.Host.told c.over_store.new.host in
+    let new = g.H.Host.told c.over_store-status.new.host in
     let words = map string_bytes c.args.words.now in
     let asked = rw c.in-Some-Work.field-0-is at (rw c.in-Some-Work.is at c.in-Ok.ensures) in
     for_each (λ t. KeepsUnread (task_of t (played play empty first) old.left) old new)
-    words c.in-Some-Work.tool asked (c.over_store.ensures.unread first) tool asks
+    words c.in-Some-Work.tool asked (c.over_store-status.ensures.unread first) tool asks
 
 pub returns-in-Some-Work-clause-still : goal.returns-in-Some-Work-clause-still
 returns-in-Some-Work-clause-still g c = λ tool first stood asks.
     let old = g.H.Host.told c.args.host.now in
-    let new = g.H.Host.told c.over_store.new.host in
+    let new = g.H.Host.told c.over_store-status.new.host in
     let words = map string_bytes c.args.words.now in
     let asked = rw c.in-Some-Work.field-0-is at (rw c.in-Some-Work.is at c.in-Ok.ensures) in
     for_each
     (λ t. events (task_of t (played play empty first) old.left).answers ≡ [] → new_size < length (disk_now old).now
     → Throughout old new (λ disk said. IsAtMostSynced (disk_now old) disk))
-    words c.in-Some-Work.tool asked (c.over_store.ensures.still first stood) tool asks
+    words c.in-Some-Work.tool asked (c.over_store-status.ensures.still first stood) tool asks
 
 pub returns-in-Some-Work-clause-bad : goal.returns-in-Some-Work-clause-bad
-returns-in-Some-Work-clause-bad g c = λ is. absurd (c.over_store.ensures.words is)
+returns-in-Some-Work-clause-bad g c = λ is. absurd (c.over_store-status.ensures.words is)
 
 pub returns-in-Some-Work-clause-words : goal.returns-in-Some-Work-clause-words
 returns-in-Some-Work-clause-words g c = λ bad.
@@ -97,16 +97,16 @@ returns-in-Some-Work-clause-words g c = λ bad.
     (rw c.in-Some-Work.field-0-is at (rw c.in-Some-Work.is at c.in-Ok.ensures)))
 
 pub returns-in-Some-Work-clause-untouched : goal.returns-in-Some-Work-clause-untouched
-returns-in-Some-Work-clause-untouched g c = λ is. absurd (c.over_store.ensures.words is)
+returns-in-Some-Work-clause-untouched g c = λ is. absurd (c.over_store-status.ensures.words is)
 
 pub returns-in-Some-Work-clause-damaged : goal.returns-in-Some-Work-clause-damaged
-returns-in-Some-Work-clause-damaged g c = λ other. c.over_store.ensures.damaged
+returns-in-Some-Work-clause-damaged g c = λ other. c.over_store-status.ensures.damaged
 
 pub returns-in-Some-Work-clause-silent : goal.returns-in-Some-Work-clause-silent
-returns-in-Some-Work-clause-silent g c = λ other. c.over_store.ensures.silent
+returns-in-Some-Work-clause-silent g c = λ other. c.over_store-status.ensures.silent
 
 pub returns-in-Some-Work-clause-damages : goal.returns-in-Some-Work-clause-damages
-returns-in-Some-Work-clause-damages g c = λ other told none. inr (c.over_store.ensures.damages told none)
+returns-in-Some-Work-clause-damages g c = λ other told none. inr (c.over_store-status.ensures.damages told none)
 
 pub returns-in-Some-Work-clause-replay : goal.returns-in-Some-Work-clause-replay
 returns-in-Some-Work-clause-replay g c = λ replay.
