@@ -74,8 +74,9 @@ fn rules(
 fn check_command(rt: &impl Abort, alloc: Global, policy: &Policy, row: &str) -> Result<(), Fail> {
     let (line, wanted) = cut(row, " = ");
     let command = command(alloc, line)?;
-    let found = rules(alloc, policy, &command, branch_of(&command, "trunk"))?;
-    assert_eq!(rt; found.as_str(), wanted, "{line}");
+    let found = rules(alloc, policy, &command, branch_of(&command, "trunk"));
+    drop(command);
+    assert_eq!(rt; found?.as_str(), wanted, "{line}");
     Ok(())
 }
 
