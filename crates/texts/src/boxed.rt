@@ -6,7 +6,6 @@ use std::fmt;
 use std::marker::Model;
 
 /// A value in memory of its own, which contracts see as the value. It takes 8 bytes where it is kept, so that a rare part of a type may be large.
-#[derive(Drop)]
 pub struct Boxed<T> {
     item: Box<T>,
 }
@@ -15,6 +14,13 @@ impl<T> Model for Boxed<T> {
     ghost Value = { T };
 
     ghost view = { λ a. a.item.value };
+}
+
+/// One call, so that a proof has no branches for what the value holds.
+impl<T: Drop> Drop for Boxed<T> {
+    fn drop(self) {
+        let Boxed { item: _item } = self;
+    }
 }
 
 impl<T> Boxed<T> {
