@@ -1,12 +1,12 @@
 //! The tests for faults of names, types, opposites and bounds, each over the whole document.
-ghost use Rattle.std.specs.Prelude.{◌≡◌, ◌<◌, IfOk, Some, length, map, slice_get, ◌^◌};
+ghost use Rattle.std.specs.Prelude.{◌≡◌, ◌<◌, IfOk, IsTrue, Some, length, map, slice_get, ◌^◌};
 ghost use Rattle.std.specs.List.{list_any};
 ghost use Rattle.std.specs.Option.{option_copied};
 ghost use Rattle.ecore_meta.specs.Names.{has_repeat};
 ghost use Rattle.ecore_build.specs.Faults.{any_from, answers, bad_bound, bad_bounds, contains_back, is_at, is_missing, is_self, is_skipped, is_to, is_unanswered, is_unsupported, repeats_within, unsupported};
 
 use ecore_drafts::{
-    ClassifierRow, Draft, End, Target, feature_names, index, literal_names, literal_texts,
+    ClassifierRow, Draft, End, LiteralRow, Target, feature_names, index, literal_names, literal_texts,
 };
 use std::alloc::{AllocError, Global};
 
@@ -18,6 +18,18 @@ pub(crate) fn repeats(alloc: Global, names: &[&str]) -> Result<bool, AllocError>
         None => Ok(true),
         Some(_) => Ok(false),
     }
+}
+
+/// Whether the text of each literal is its name.
+fn are_names(literals: &[LiteralRow]) -> bool
+    ensures { IsTrue result → map (λ l. l.literal) literals.now ≡ map (λ l. l.name) literals.now }
+{
+    for row in literals {
+        if row.literal != row.name {
+            return false;
+        }
+    }
+    true
 }
 
 /// Whether two features of a class, or two literals of an enum, have one name, or two literals one text.
@@ -33,6 +45,9 @@ fn repeats_within(alloc: Global, row: &ClassifierRow) -> Result<bool, AllocError
             let names = literal_names(alloc, row.literals.as_slice())?;
             if repeats(alloc, names.as_slice())? {
                 return Ok(true);
+            }
+            if are_names(row.literals.as_slice()) {
+                return Ok(false);
             }
             let texts = literal_texts(alloc, row.literals.as_slice())?;
             Ok(repeats(alloc, texts.as_slice())?)

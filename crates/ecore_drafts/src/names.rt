@@ -16,10 +16,9 @@ pub fn index<'a>(
 {
     let mut index = BTreeMap::new(alloc);
     for (n, name) in names.iter().enumerate() {
-        if index.contains_key(*name) {
+        if index.insert(*name, n)?.is_some() {
             return Ok(None);
         }
-        index.insert(*name, n)?;
     }
     Ok(Some(index))
 }

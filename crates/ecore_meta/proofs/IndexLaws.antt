@@ -29,6 +29,16 @@ entered_there f x q n there = by_test (bytes_eq q x) refl
     by_test true e = kept (f q) (Some n) (subst (λ z. true ≡ is_some (f z)) (sym (same q x e)) there)
     by_test false e = sym (or_none (f q))
 
+-- a name that is a text which the index has, entered again
+pub entered_own : (f : Name → Option ℕ) (x t q : Name) (n : ℕ) → true ≡ bytes_eq x t → is_some (f t) ≡ true
+    → f q ≡ or_else (f q) (cond (bytes_eq q x) (Some n) None)
+entered_own f x t q n own there = entered_there f x q n (subst (λ z. true ≡ is_some (f z)) (sym (same x t (sym own))) (sym there))
+
+-- an index that has what another has, and more
+pub has_more : (a b : Option ℕ) → is_some a ≡ true → is_some (or_else a b) ≡ true
+has_more None b h = cc
+has_more (Some n) b h = refl
+
 -- a name that the index lacks, entered
 pub entered_new : (f : Name → Option ℕ) (x q z : Name) (n : ℕ) → z ≡ x → false ≡ is_some (f x)
     → update bytes_eq f z (Some n) q ≡ or_else (f q) (cond (bytes_eq q x) (Some n) None)

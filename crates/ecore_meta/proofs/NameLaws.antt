@@ -1,5 +1,5 @@
 -- Names in lists: one more at the end.
-use Rattle.std.proofs.Common.{◌≡◌, ℕ, suc, ◌+◌, ◌<◌, Bool, true, false, List, [], ◌∷◌, ◌++◌, ◌||◌, cond, refl, sym, ap, subst, ◌∙◌, arith, length}
+use Rattle.std.proofs.Common.{◌≡◌, ℕ, zero, suc, ◌+◌, ◌<◌, Bool, true, false, List, [], ◌∷◌, ◌++◌, ◌||◌, cond, refl, sym, ap, subst, ◌∙◌, arith, length}
 use Rattle.std.proofs.Common.{take, drop, get_or, map, rules}
 use Rattle.std.specs.Prelude.{Option, None, Some, is_some}
 use Rattle.std.specs.List.{list_any}
@@ -94,6 +94,19 @@ listed x (y ∷ ys) = ap (λ b. bytes_eq x y || b) (listed x ys) ∙ by_test (by
     by_test true o = refl
     by_test false None = refl
     by_test false (Some n) = refl
+
+-- the name of an item of the list has a number
+pub number_at : {X : Type 0} (name : X → Name) (xs : List X) (i : ℕ) (d : X) → i < length xs
+    → is_some (number_of (name (get_or xs i d)) (map name xs)) ≡ true
+number_at name [] i d h = absurd (omega (arith, h))
+number_at name (x ∷ xs) zero d h = ap (λ b. is_some (cond b (Some 0) (option_map (λ n. suc n) (number_of (name x) (map name xs))))) (itself (name x))
+number_at name (x ∷ xs) (suc i) d h =
+    by_test (bytes_eq (name (get_or xs i d)) (name x)) (number_of (name (get_or xs i d)) (map name xs)) (number_at name xs i d (omega (arith, h)))
+  where
+    by_test : (b : Bool) (o : Option ℕ) → is_some o ≡ true → is_some (cond b (Some 0) (option_map (λ n. suc n) o)) ≡ true
+    by_test true o h = refl
+    by_test false None h = cc
+    by_test false (Some n) h = refl
 
 pub has_repeat-push : (xs : List Name) (x : Name) → has_repeat (xs ++ x ∷ []) ≡ has_repeat xs || is_some (number_of x xs)
 has_repeat-push [] x = refl

@@ -1,5 +1,5 @@
 //! Indexes of names: of the classes of a metamodel, and of the literals of its enums.
-ghost use Rattle.std.specs.Prelude.{◌≡◌, ◌<◌, IfOk, None, OnOk, Some, cond, length, map, ◌^◌};
+ghost use Rattle.std.specs.Prelude.{◌≡◌, ◌<◌, IfOk, IsSome, None, OnOk, Some, cond, length, map, ◌^◌};
 ghost use Rattle.std.specs.BTreeMap.{get_by_text};
 ghost use Rattle.std.specs.Str.{bytes_eq};
 ghost use Rattle.ecore_meta.specs.Indexes.{AllKnown};
@@ -56,16 +56,34 @@ fn enter_texts(
     Ok(())
 }
 
+/// Enters the name of a literal whose text has a number. A name that is the text needs no search.
+fn enter_name(
+    alloc: Global,
+    literal: &EnumLiteral,
+    number: u32,
+    index: &mut BTreeMap<String, u32>,
+) -> Result<(), AllocError>
+    requires { IsSome (get_by_text index.old literal.now.text) }
+    ensures { OnOk result ((q : Name) → get_by_text index.new q ≡ or_else (get_by_text index.old q) (cond (bytes_eq q literal.now.name) (Some number) None)) }
+{
+    if literal.name == literal.text {
+        return Ok(());
+    }
+    enter(alloc, literal.name.as_str(), number, index)
+}
+
+/// Enters the names of literals whose texts have numbers.
 fn enter_names(
     alloc: Global,
     literals: &[EnumLiteral],
     index: &mut BTreeMap<String, u32>,
 ) -> Result<(), AllocError>
-    requires { length literals.now < 2 ^ 32 }
-    ensures { OnOk result ((q : Name) → get_by_text index.new q ≡ or_else (get_by_text index.old q) (number_of q (map (λ l. l.name) literals.now))) }
+    requires few { length literals.now < 2 ^ 32 }
+    requires texts { (q : Name) → get_by_text index.old q ≡ number_of q (map (λ l. l.text) literals.now) }
+    ensures { OnOk result ((q : Name) → get_by_text index.new q ≡ literal_in literals.now q) }
 {
     for (n, literal) in literals.iter().enumerate() {
-        enter(alloc, literal.name.as_str(), n as u32, index)?;
+        enter_name(alloc, literal, n as u32, index)?;
     }
     Ok(())
 }

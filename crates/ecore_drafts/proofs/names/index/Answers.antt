@@ -4,16 +4,17 @@ use Rattle.std.proofs.lemmas.Map.Text.{btree_map_updates_str}
 use Rattle.ecore_meta.proofs.NameLaws.{repeat_found, still_apart, still_told}
 use Rattle.ecore_drafts.proofs.names.index.Goals as goal
 
-pub returns-then-contains_key : goal.returns-then-contains_key
-returns-then-contains_key c =
-    repeat_found (λ n. n.now) c.args.names.now c.loop-n.n _ c.loop-n-test.true (c.if-contains_key.ensures ∙ ap is_some (c.loop-n.invariant.told _))
+pub returns-then-is_some : goal.returns-then-is_some
+returns-then-is_some c =
+    repeat_found (λ n. n.now) c.args.names.now c.loop-n.n _ c.loop-n-test.true
+    (c.if-is_some.ensures ∙ ap is_some (c.in_ok-insert.ensures.old ∙ c.loop-n.invariant.told _))
 
 pub loop-n-preserved : goal.loop-n-preserved
 loop-n-preserved c = record {
   apart = still_apart (λ n. n.now) c.args.names.now c.loop-n.n _ c.loop-n-test.true c.loop-n.invariant.apart
-      (c.if-contains_key.ensures ∙ ap is_some (c.loop-n.invariant.told _));
+      (c.if-is_some.ensures ∙ ap is_some (c.in_ok-insert.ensures.old ∙ c.loop-n.invariant.told _));
   told = λ q.
       btree_map_updates_str _ c.loop-n.index c.insert.new.self _ c.in_ok-insert.ensures.updates q
       ∙ still_told (λ n. n.now) c.args.names.now c.loop-n.n _ c.loop-n-test.true
-      (c.if-contains_key.ensures ∙ ap is_some (c.loop-n.invariant.told _)) _ refl _ c.loop-n.invariant.told q;
+      (c.if-is_some.ensures ∙ ap is_some (c.in_ok-insert.ensures.old ∙ c.loop-n.invariant.told _)) _ refl _ c.loop-n.invariant.told q;
 }

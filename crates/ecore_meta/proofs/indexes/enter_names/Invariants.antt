@@ -5,4 +5,5 @@ use Rattle.ecore_meta.specs.Values.{or_else}
 use Rattle.ecore_meta.proofs.indexes.enter_names.Given as goal
 
 abbrev pub invariant-loop-n : goal.invariant-loop-n
-invariant-loop-n l = (q : Name) → get_by_text l.index q ≡ or_else (get_by_text l.initial.index q) (number_of q (map (λ x. x.name) (take l.n l.literals)))
+invariant-loop-n l =
+    (q : Name) → get_by_text l.index q ≡ or_else (number_of q (map (λ x. x.text) l.literals)) (number_of q (map (λ x. x.name) (take l.n l.literals)))
