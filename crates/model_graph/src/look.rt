@@ -18,7 +18,7 @@ use std::alloc::{AllocError, Global};
 use texts::List;
 
 /// The targets of a feature of an element. `None` stands for an empty list.
-pub(crate) fn targets_of<'a>(nodes: &'a Nodes<Node>, a: &Id, f: u32) -> Option<&'a RankedList>
+fn targets_of<'a>(nodes: &'a Nodes<Node>, a: &Id, f: u32) -> Option<&'a RankedList>
     ensures { (b : IdBytes) → get (unwrap_or (option_copied result) empty) b ≡ inner (λ n. n.out) (get nodes.now a.now) (f, b) }
 {
     match nodes.find(a) {
@@ -74,6 +74,13 @@ impl Look for Graph {
 
     fn child_count(&self, place: &Place) -> usize {
         match children_of(&self.roots, &self.nodes, place) {
+            None => 0,
+            Some(group) => group.len(),
+        }
+    }
+
+    fn target_count(&self, a: &Id, f: u32) -> usize {
+        match targets_of(&self.nodes, a, f) {
             None => 0,
             Some(group) => group.len(),
         }

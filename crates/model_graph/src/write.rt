@@ -3,7 +3,6 @@ ghost use Rattle.std.specs.Prelude.{◌≡◌};
 
 use crate::Graph;
 use crate::lists::{list_in, list_out};
-use crate::look::targets_of;
 use crate::writes::{drop_attr, put_attr, write_placed};
 use ecore_meta::{Metamodel, Value};
 use graph_parts::Node;
@@ -13,13 +12,6 @@ use step_rules::{Write, insert_in, remove_in, shift_in, take_step};
 use texts::List;
 
 impl Write for Graph {
-    fn target_count(&self, a: &Id, f: u32) -> usize {
-        match targets_of(&self.nodes, a, f) {
-            None => 0,
-            Some(group) => group.len(),
-        }
-    }
-
     fn has_no_value(&self, e: &Id) -> bool {
         match self.nodes.find(e) {
             None => true,

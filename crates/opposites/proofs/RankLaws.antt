@@ -11,23 +11,6 @@ use Rattle.finite_maps.proofs.SortLaws.{tally-in_order, tally-map}
 use Rattle.edit_laws.specs.References.{without_entry}
 use Rattle.edit_laws.proofs.Lists.{tally-filter, one_passes}
 
--- as many targets as rows
-pub length_tally : {X : Type 0} (xs : List X) → length xs ≡ tally (λ _. true) xs
-length_tally [] = refl
-length_tally (x ∷ xs) = let h = length_tally xs in omega (arith, h)
-
-pub true_too : (b : Bool) → b && true ≡ b
-true_too true = refl
-true_too false = refl
-
-pub length_targets : (row : FinMap row_cmp ℕ) (a : IdBytes) (f : ℕ) → length (targets row a f) ≡ count (λ (e : RowKey × ℕ). is_of a f e.0) row
-length_targets row a f =
-    length_tally (targets row a f)
-    ∙ tally-in_order entry_cmp (λ _. true) (map row_entry (picked (λ e. is_of a f e.0) row))
-    ∙ tally-map (λ _. true) row_entry (picked (λ e. is_of a f e.0) row)
-    ∙ tally-filter (λ (e : RowKey × ℕ). is_of a f e.0) (λ _. true) (entries row)
-    ∙ (λ i. tally (λ (e : RowKey × ℕ). true_too (is_of a f e.0) i) (entries row))
-
 -- as many entries as those that stay and those that are removed
 stay_or_go : (b : IdBytes) (xs : List Entry) → length xs ≤ length (without_entry b xs) + tally (λ (x : Entry). text_eq b x.id) xs
 stay_or_go b [] = omega arith

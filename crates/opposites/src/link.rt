@@ -89,8 +89,7 @@ fn link<L: Look>(
     let mut steps = List::new(alloc);
     displace(alloc, look, meta, opposite, f, b, &mut steps)?;
     let here = enter(alloc, look, a, f, at, &mut steps)?;
-    let has_room = has_room_for(alloc, look, meta, a, f)?;
-    if !has_room {
+    if !has_room_for(look, meta, a, f) {
         return Err(LinkFault::Bound);
     }
     let there = enter_there(alloc, look, meta, opposite, b, &mut steps)?;

@@ -13,22 +13,16 @@ use std::alloc::{AllocError, Global};
 use texts::List;
 
 /// Whether the opposite's list has room, once the entry that it displaces is removed.
-fn has_room_there<L: Look>(
-    alloc: Global,
-    look: &L,
-    meta: &Metamodel,
-    opposite: Option<u32>,
-    b: &Id,
-) -> Result<bool, AllocError>
-    ensures { IfOk result (λ r. r ≡ room_there meta.now (L.state look.now) opposite b.now) }
+fn has_room_there<L: Look>(look: &L, meta: &Metamodel, opposite: Option<u32>, b: &Id) -> bool
+    ensures { result ≡ room_there meta.now (L.state look.now) opposite b.now }
 {
     match opposite {
-        None => Ok(true),
+        None => true,
         Some(g) => {
             if holds_one(meta, g) {
-                Ok(true)
+                true
             } else {
-                has_room_for(alloc, look, meta, b, g)
+                has_room_for(look, meta, b, g)
             }
         }
     }
@@ -74,8 +68,7 @@ pub fn enter_there<L: Look>(
     ensures rank { IfOk result (λ r. rank_there meta.now (L.state look.now).row opposite b.now ≡ Some r) }
     ensures full { IfErr result (λ e. IsFull (room_there meta.now (L.state look.now) opposite b.now && is_some (rank_there meta.now (L.state look.now).row opposite b.now)) e) }
 {
-    let has_room = has_room_there(alloc, look, meta, opposite, b)?;
-    if !has_room {
+    if !has_room_there(look, meta, opposite, b) {
         return Err(LinkFault::Bound);
     }
     rank_there(alloc, look, meta, opposite, b, steps)

@@ -64,6 +64,10 @@ impl Look for Plain {
         self.places.count_at(place)
     }
 
+    fn target_count(&self, a: &Id, f: u32) -> usize {
+        self.rows.count_of(a, f)
+    }
+
     fn last_child(&self, place: &Place) -> Option<u64> {
         self.places.last_child(place)
     }

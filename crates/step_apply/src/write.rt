@@ -77,10 +77,6 @@ fn put_pair(
 }
 
 impl Write for Plain {
-    fn target_count(&self, a: &Id, f: u32) -> usize {
-        self.rows.count_of(a, f)
-    }
-
     fn has_no_value(&self, e: &Id) -> bool {
         self.attrs.is_bare(e)
     }

@@ -5,7 +5,7 @@ ghost use Rattle.std.specs.List.{insert, remove};
 ghost use Rattle.finite_maps.specs.Maps.{set, set_all};
 ghost use Rattle.model_state.specs.Listing.{values_at};
 ghost use Rattle.model_state.specs.Lists.{entry_of, shifted};
-ghost use Rattle.model_state.specs.State.{is_live, place_eq, row_count, value_count, link_count, inner_count};
+ghost use Rattle.model_state.specs.State.{is_live, place_eq, value_count, link_count, inner_count};
 ghost use Rattle.model_state.specs.Steps.{place_live, mirror_given, mirror_write};
 
 use crate::lists::{copied, insert_in, remove_in, shift_in};
@@ -17,10 +17,6 @@ use texts::List;
 /// A model whose maps can be written: what the steps ask of it beside its queries, and what they write. After an error,
 /// which is out of memory, nothing has changed.
 pub trait Write: Look {
-    /// How many targets a feature of an element has.
-    fn target_count(&self, a: &Id, f: u32) -> usize
-        ensures { result ≡ row_count (Self.state self.now) a.now f };
-
     /// Whether no attribute of the element is set.
     fn has_no_value(&self, e: &Id) -> bool
         ensures { result ≡ nat_eq (value_count (Self.state self.now) e.now) 0 };

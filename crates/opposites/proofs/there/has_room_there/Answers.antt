@@ -1,5 +1,4 @@
-use Rattle.std.proofs.Common.{◌≡◌, false, sym, ap, subst, ◌∙◌, ◌||◌}
-use Rattle.std.specs.Prelude.{IfOk}
+use Rattle.std.proofs.Common.{◌≡◌, false, sym, ap, ◌∙◌, ◌||◌}
 use Rattle.finite_maps.specs.Maps.{is_below}
 use Rattle.model_state.specs.State.{row_count}
 use Rattle.model_state.specs.Typing.{row_upper}
@@ -13,6 +12,4 @@ returns-else-holds_one gh c =
     let b = c.args.b.now in
     let g = c.in-Some.g in
     let many : holds_one meta g ≡ false = sym c.holds_one.ensures ∙ c.if-holds_one.false in
-    subst (λ t. IfOk c.has_room_for.result (λ r. r ≡ t))
-    (sym (ap (λ o. room_there meta m o b) c.in-Some.is ∙ ap (λ t. t || is_below (row_count m b g) (row_upper meta g)) many))
-    c.has_room_for.ensures
+    c.has_room_for.ensures ∙ sym (ap (λ o. room_there meta m o b) c.in-Some.is ∙ ap (λ t. t || is_below (row_count m b g) (row_upper meta g)) many)

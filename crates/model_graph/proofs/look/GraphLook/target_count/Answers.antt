@@ -3,7 +3,7 @@ use Rattle.std.specs.FinMap.{empty}
 use Rattle.model_state.specs.Keys.{id_cmp}
 use Rattle.model_graph.proofs.Listings.{targets_count, no_entries}
 use Rattle.model_graph.proofs.Looked.{read_row}
-use Rattle.model_graph.proofs.write.GraphWrite.target_count.Goals as goal
+use Rattle.model_graph.proofs.look.GraphLook.target_count.Goals as goal
 
 pub returns-in-None : goal.returns-in-None
 returns-in-None c =
