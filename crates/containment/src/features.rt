@@ -39,7 +39,7 @@ pub(crate) fn features_of(meta: &Metamodel, class: Option<u32>) -> &[u32]
     ensures { (p : Kind → Bool) → filter (λ f. p (kind_of meta.now f)) result.now ≡ features_of meta.now p class }
 {
     // For what a metamodel says of the lists of features.
-    meta.promised();
+    meta.recall_promises();
     match class {
         None => &[],
         Some(class) => meta.features_of(class),

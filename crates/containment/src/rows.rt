@@ -82,7 +82,7 @@ fn unlink_slot<L: Look>(
 ) -> Result<(), AllocError>
     ensures { OnOk result ((ss : Seq AttrKey) → HasSlots before.now ss → steps.new ≡ steps.old ++ unlinks (L.state look.now).row (opposite_of meta.now slot.now.1) slot.now.0 slot.now.1 (targets_left meta.now (L.state look.now).row ss slot.now)) }
 {
-    meta.sound();
+    meta.recall_soundness();
     let targets = look.targets(alloc, &slot.0, slot.1)?;
     let left = left_of(alloc, meta, before, slot, targets.as_slice())?;
     let opposite = opposite_of(meta, slot.1);
@@ -179,7 +179,7 @@ fn unlink_to<L: Look>(
 ) -> Result<(), AllocError>
     ensures { OnOk result ((ss : Seq AttrKey) → HasSlots slots.now ss → steps.new ≡ steps.old ++ map (incoming_unlink meta.now (L.state look.now).row e.now) (incoming_left meta.now (L.state look.now).row ss e.now)) }
 {
-    meta.sound();
+    meta.recall_soundness();
     let rows = look.incoming(alloc, e)?;
     unlink_incoming(alloc, look, meta, slots, e, rows.as_slice(), steps)
 }

@@ -133,7 +133,7 @@ impl Metamodel {
 
     /// The law of opposites of links. Each names the other back, none is its own, and what one side may link the other
     /// may link back. A holder of any metamodel has it by this call, which does nothing.
-    pub fn sound(&self)
+    pub fn recall_soundness(&self)
         ensures { Sound self.now }
     {
         // For what the type's invariant says.
@@ -143,7 +143,7 @@ impl Metamodel {
     /// What holds of every metamodel. It tells of classes above classes, of lists of features, of opposites of both
     /// sorts, of names, of bounds, and of what features name. A holder of any metamodel has it by this call, which does
     /// nothing.
-    pub fn promised(&self)
+    pub fn recall_promises(&self)
         ensures { IsMetamodel self.now }
     {
         // For what the type's invariant says.
@@ -176,7 +176,7 @@ impl Metamodel {
         ensures { result ≡ has_feature self.now c f }
     {
         // For the lists of features, of which the table tells.
-        self.promised();
+        self.recall_promises();
         match self.get_feature(f) {
             None => false,
             Some(feature) => self.is_a(c, feature.owner),

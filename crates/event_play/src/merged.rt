@@ -33,7 +33,7 @@ fn tidied(alloc: Global, repo: &Repo, ws: u32) -> Result<Package, ReplayFault>
     if is_tidy(alloc, &package, &begun.meta)? {
         return Err(ReplayFault::NotPlayable);
     }
-    repo.orderly();
+    repo.recall_order();
     let list = tidy_package(alloc, &package, &begun.meta)?;
     Ok(list)
 }
@@ -51,7 +51,7 @@ fn updated(alloc: Global, repo: &Repo, ws: u32, letters: &Text) -> Result<Update
     let Some(workspace) = repo.workspace(ws) else {
         return Err(ReplayFault::NotPlayable);
     };
-    repo.orderly();
+    repo.recall_order();
     let head = begun.history.head(workspace.branch);
     if workspace.is_open() || workspace.base == head {
         return Err(ReplayFault::NotPlayable);
@@ -89,7 +89,7 @@ fn merged(
     if workspace.is_open() || branch >= begun.history.branch_count() || branch == workspace.branch {
         return Err(ReplayFault::NotPlayable);
     }
-    repo.orderly();
+    repo.recall_order();
     let version = begun.history.head(branch);
     let plan = begun.merge_plan(alloc, workspace, version)?;
     if plan.theirs.len() == 0 || !are_choices(letters.as_str(), plan.buckets.rows.as_slice()) {
@@ -107,7 +107,7 @@ pub(crate) fn tidy(alloc: Global, repo: &mut Repo, ws: u32) -> Result<(), Replay
     ensures same { OnErr result (repo.new ≡ repo.old) }
     ensures cannot { IsErrOf result ReplayFault.NotPlayable → playable_with repo.old repo.old.meta (Tidy ws) ≡ false }
 {
-    repo.orderly();
+    repo.recall_order();
     let operations = tidied(alloc, repo, ws)?;
     repo.replace_operations(alloc, ws, operations);
     Ok(())
@@ -126,7 +126,7 @@ pub(crate) fn update(
     ensures same { OnErr result (repo.new ≡ repo.old) }
     ensures cannot { IsErrOf result ReplayFault.NotPlayable → playable_with repo.old repo.old.meta (Update ws letters.now) ≡ false }
 {
-    repo.orderly();
+    repo.recall_order();
     let updated = updated(alloc, repo, ws, letters)?;
     repo.update(alloc, ws, updated);
     Ok(())
@@ -146,7 +146,7 @@ pub(crate) fn merge(
     ensures same { OnErr result (repo.new ≡ repo.old) }
     ensures cannot { IsErrOf result ReplayFault.NotPlayable → playable_with repo.old repo.old.meta (Merge ws branch letters.now) ≡ false }
 {
-    repo.orderly();
+    repo.recall_order();
     let merged = merged(alloc, repo, ws, branch, letters)?;
     repo.take_up(alloc, ws, merged)?;
     Ok(())

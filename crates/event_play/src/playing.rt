@@ -132,7 +132,7 @@ fn could_upgrade(repo: &Repo) -> bool
 fn is_at_head(repo: &Repo, ws: u32) -> bool
     ensures { result ≡ is_at_head repo.now.history (workspace_of repo.now ws) }
 {
-    repo.orderly();
+    repo.recall_order();
     let Some(begun) = repo.begun() else {
         return false;
     };
@@ -328,7 +328,7 @@ fn make(
         drop(event);
         return Err(ReplayFault::NotPlayable);
     }
-    repo.orderly();
+    repo.recall_order();
     let events = repo.event_count() + 1;
     let end = next_gate(repo.end(), size as u64);
     change(alloc, cache, pool, repo, event)?;

@@ -37,7 +37,7 @@ pub(crate) fn last_write(
     requires there { version < length history.now.history.versions }
     ensures { IfOk result (λ last. last ≡ last_write meta.now history.now.history version e.now f) }
 {
-    history.whole();
+    history.recall_wholeness();
     law_of_last_writes();
     let index = index_of(alloc, meta, history)?;
     let path = history.path(alloc, version)?;
@@ -127,7 +127,7 @@ pub(crate) fn blame_lines(
     requires there { version < length history.now.history.versions }
     ensures { IfOk result (λ lines. lines ≡ blame_lines meta.now history.now.history version e.now) }
 {
-    history.whole();
+    history.recall_wholeness();
     law_of_last_writes();
     let index = index_of(alloc, meta, history)?;
     let path = history.path(alloc, version)?;

@@ -223,7 +223,7 @@ impl History {
     }
 
     /// Each number that stands in a history names something. This call does nothing: its contract says so of any history.
-    pub fn whole(&self)
+    pub fn recall_wholeness(&self)
         ensures { IsWhole self.now.history }
     {
         // For what the type's invariant says.
@@ -269,7 +269,7 @@ impl History {
         ensures path { IfOk result (λ p. p ≡ path self.now.history v) }
         ensures there { IfOk result (λ p. All (λ u. u < length self.now.history.versions) p) }
     {
-        self.whole();
+        self.recall_wholeness();
         let mut back = Vec::new(alloc);
         back.push(v)?;
         let mut at = v;
@@ -314,7 +314,7 @@ impl History {
         ensures head { result ≡ head self.now.history branch }
         ensures version { result < length self.now.history.versions }
     {
-        self.whole();
+        self.recall_wholeness();
         self.kept_head(branch)
     }
 
@@ -351,7 +351,7 @@ impl History {
         ensures size { IfOk result (λ lists. length lists.items ≡ length self.now.history.versions) }
         ensures names { IfOk result (λ lists. (v : ℕ) → v < length self.now.history.versions → slice_get lists.items v ≡ Some (tags_of self.now.history v)) }
     {
-        self.whole();
+        self.recall_wholeness();
         let mut lists = empty_lists(alloc, self.versions.len())?;
         for tag in &self.tags {
             put_name(&mut lists, tag.version as usize, tag.name.copy(alloc)?)?;

@@ -41,7 +41,7 @@ impl History {
         ensures last { IsLastCommon self.now.history a b result }
         ensures there { result < length self.now.history.versions }
     {
-        self.whole();
+        self.recall_wholeness();
         let mut first = a;
         let mut second = b;
         while first != second {
@@ -65,7 +65,7 @@ impl History {
         requires pending { All (λ v. v < length self.now.history.versions) pending.now }
         ensures { IfOk result (λ flags. FlagsKnown self.now.history base pending.now flags.items) }
     {
-        self.whole();
+        self.recall_wholeness();
         let mut flags = vec![in alloc; false; self.version_count() as usize]?;
         let path = self.path(alloc, base)?;
         flag_all(&mut flags, path.as_slice());
@@ -85,7 +85,7 @@ impl History {
         ensures last { result ≡ greatest (filter (is_flagged flags.now) (path self.now.history v)) }
         ensures there { result < length self.now.history.versions }
     {
-        self.whole();
+        self.recall_wholeness();
         let mut at = v;
         while !flags[at as usize] {
             at = self.parent_of(at);
@@ -110,7 +110,7 @@ impl History {
         ensures last { IfOk result (λ v. IsMergeBase self.now.history base pending.now other v) }
         ensures there { IfOk result (λ v. v < length self.now.history.versions) }
     {
-        self.whole();
+        self.recall_wholeness();
         let flags = self.known_flags(alloc, base, pending.as_slice())?;
         Ok(self.last_flagged(&flags, other))
     }

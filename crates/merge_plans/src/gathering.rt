@@ -41,7 +41,7 @@ pub fn path_after(
     ensures path { IfOk result (λ us. us ≡ path_after history.now.history v last) }
     ensures there { IfOk result (λ us. All (λ u. u < length history.now.history.versions) us) }
 {
-    history.whole();
+    history.recall_wholeness();
     let mut back = Vec::new(alloc);
     let mut at = last;
     while at > v {

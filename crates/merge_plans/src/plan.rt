@@ -29,7 +29,7 @@ pub struct Plan {
 }
 
 /// The places in the buckets of two packages have numbers of 64 bits, counted from 1 too. It does nothing.
-fn numbered(_meta: &Metamodel, theirs: &Package, mine: &Package, _buckets: &Buckets)
+fn recall_numbers(_meta: &Metamodel, theirs: &Package, mine: &Package, _buckets: &Buckets)
     requires same { _buckets.now.rows ≡ buckets_of _meta.now theirs.now mine.now }
     ensures places { All (λ b. All (λ i. i < 2 ^ 64 - 1) b.theirs × All (λ i. i < 2 ^ 64 - 1) b.mine) _buckets.now.rows }
 {
@@ -56,7 +56,7 @@ pub fn plan_update(
     let theirs = operations_after(alloc, history, base, history.head(branch))?;
     let mine = copy_operations(alloc, local)?;
     let buckets = buckets(alloc, &theirs, &mine, meta)?;
-    numbered(meta, &theirs, &mine, &buckets);
+    recall_numbers(meta, &theirs, &mine, &buckets);
     Ok(Plan {
         theirs,
         mine,
@@ -111,7 +111,7 @@ pub fn plan_merge(
     let mine = mine_from(alloc, history, base, start, local, other)?;
     let mine = tidy(alloc, &mine, meta)?;
     let buckets = buckets(alloc, &theirs, &mine, meta)?;
-    numbered(meta, &theirs, &mine, &buckets);
+    recall_numbers(meta, &theirs, &mine, &buckets);
     Ok(Plan {
         theirs,
         mine,

@@ -20,8 +20,8 @@ fn class_order(alloc: Global, old: &Metamodel, next: &Metamodel) -> Result<Order
     ensures numbers { IfOk result (λ o. o ≡ (orders old.now next.now).classes) }
     ensures order { IfOk result (λ o. IsOrder (length next.now.classes) o) }
 {
-    old.promised();
-    next.promised();
+    old.recall_promises();
+    next.recall_promises();
     let first = classes_in(alloc, old, next)?;
     let numbers = begun_by(alloc, first, next.class_count())?;
     let order = Order::new(alloc, numbers)?;
@@ -33,8 +33,8 @@ fn feature_order(alloc: Global, old: &Metamodel, next: &Metamodel) -> Result<Ord
     ensures numbers { IfOk result (λ o. o ≡ (orders old.now next.now).features) }
     ensures order { IfOk result (λ o. IsOrder (length next.now.features) o) }
 {
-    old.promised();
-    next.promised();
+    old.recall_promises();
+    next.recall_promises();
     let first = features_in(alloc, old, next)?;
     let numbers = begun_by(alloc, first, next.feature_count())?;
     let order = Order::new(alloc, numbers)?;
@@ -52,8 +52,8 @@ fn enum_order(
     ensures numbers { IfOk result (λ o. o ≡ (orders old.now next.now).enums) }
     ensures order { IfOk result (λ o. IsOrder (length next.now.enums) o) }
 {
-    old.promised();
-    next.promised();
+    old.recall_promises();
+    next.recall_promises();
     let first = enums_in(alloc, old, next, index)?;
     let numbers = begun_by(alloc, first, next.enum_count())?;
     let order = Order::new(alloc, numbers)?;
@@ -86,7 +86,7 @@ fn made_anew(alloc: Global, next: &Metamodel, to: &Orders) -> Result<Metamodel, 
     requires { AreOrders next.now to.now }
     ensures { IfOk result (λ m. m ≡ renumbered next.now to.now) }
 {
-    next.promised();
+    next.recall_promises();
     let parts = renumbered(alloc, next, to)?;
     // For how many classes and features there are.
     let _classes = next.class_count();
@@ -100,7 +100,7 @@ fn with_numbers(alloc: Global, next: Metamodel, to: &Orders) -> Result<Metamodel
     requires { AreOrders next to.now }
     ensures { IfOk result (λ m. m ≡ renumbered next to.now) }
 {
-    next.promised();
+    next.recall_promises();
     if to.are_identities() {
         return Ok(next);
     }
@@ -120,8 +120,8 @@ fn moved(
     ensures evolved { IfOk result (λ m. m ≡ evolved old.now next) }
     ensures preserves { IfOk result (λ m. Preserves old.now m) }
 {
-    old.promised();
-    next.promised();
+    old.recall_promises();
+    next.recall_promises();
     let to = orders(alloc, old, &next, index)?;
     let meta = with_numbers(alloc, next, &to)?;
     Ok(meta)

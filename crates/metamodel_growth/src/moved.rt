@@ -138,7 +138,7 @@ fn features_of(
     requires { length order.now ≡ length next.now.features }
     ensures { IfOk result (λ v. v.items ≡ places (declared next.now c) order.now) }
 {
-    next.promised();
+    next.recall_promises();
     let set = places(alloc, order, next.features_of(c))?;
     let numbers = numbers_of(alloc, &set)?;
     Ok(numbers)
@@ -200,7 +200,7 @@ fn above_moved(
     requires { length order.now ≡ length next.now.classes }
     ensures { IfOk result (λ s. s.keys ≡ places (is_a next.now c) order.now) }
 {
-    next.promised();
+    next.recall_promises();
     let classes = above_of(alloc, next, c)?;
     let set = places(alloc, order, classes.as_slice())?;
     Ok(set)
@@ -268,7 +268,7 @@ fn enums(alloc: Global, next: &Metamodel, order: &Order) -> Result<Enums, AllocE
     requires { length order.now ≡ length next.now.enums }
     ensures { IfOk result (λ a. a ≡ filter_map (λ e. slice_get next.now.enums e) order.now) }
 {
-    order.is_order();
+    order.recall_order();
     let mut moved = Vec::new(alloc);
     for e in order.numbers() {
         push_enum(alloc, next, *e, &mut moved)?;

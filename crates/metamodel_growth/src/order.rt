@@ -70,7 +70,7 @@ impl Order {
 
     /// What holds of every order: each number below its length is there once. A holder has it by this call, which does
     /// nothing.
-    pub(crate) fn is_order(&self)
+    pub(crate) fn recall_order(&self)
         ensures order { IsOrder (length self.now) self.now }
         ensures few { length self.now < 2 ^ 32 }
     {
@@ -173,7 +173,7 @@ pub(crate) fn places(
     requires { (k : ℕ) → list_any (nat_eq k) numbers.now ≡ true → k < length order.now }
     ensures { IfOk result (λ s. s.keys ≡ places (λ k. list_any (nat_eq k) numbers.now) order.now) }
 {
-    order.is_order();
+    order.recall_order();
     let places = placed(alloc, order, numbers)?;
     let set = set_of(alloc, places.as_slice())?;
     Ok(set)

@@ -194,7 +194,7 @@ pub fn is_same(a: &Metamodel, b: &Metamodel) -> bool
     ensures parts { result ≡ is_same a.now b.now }
     ensures exact { IsTrue result ↔ (a.now ≡ b.now) }
 {
-    a.promised();
-    b.promised();
+    a.recall_promises();
+    b.recall_promises();
     same_parts(a, b)
 }

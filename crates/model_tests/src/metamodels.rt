@@ -94,7 +94,7 @@ pub(crate) fn read(alloc: Global, document: &str) -> Result<Metamodel, Fail>
         return Err("a long text")?;
     }
     let meta = read_metamodel(alloc, text.as_str())?;
-    meta.sound();
+    meta.recall_soundness();
     Ok(meta)
 }
 

@@ -24,7 +24,7 @@ pub(crate) fn read(alloc: Global, document: &str) -> Result<Metamodel, TimesFaul
     let Ok(meta) = read_metamodel(alloc, document) else {
         return Err(TimesFault::Metamodel);
     };
-    meta.sound();
+    meta.recall_soundness();
     Ok(meta)
 }
 

@@ -129,6 +129,6 @@ pub fn take_edit<L: Look>(
     ensures recorded { Answers result (recorded meta.now (L.state look.now) ws edit.now) }
     ensures keeps { IfOk result (KeepsGood meta.now (L.state look.now)) }
 {
-    meta.sound();
+    meta.recall_soundness();
     record(alloc, look, meta, ws, edit)
 }

@@ -69,7 +69,7 @@ fn refer<L: Look>(
     requires one { holds_one meta.now named.now.feature ≡ true }
     ensures { Answers result (recording_of meta.now (L.state look.now) (refer_effect meta.now (L.state look.now) named.now.id named.now.feature (Some word.now))) }
 {
-    meta.sound();
+    meta.recall_soundness();
     let target = live(alloc, look, word)?;
     let steps = set_ref_steps(alloc, look, meta, &named.id, named.feature, &target)?;
     Ok(recorded(steps))
@@ -128,7 +128,7 @@ pub fn link<L: Look>(
     if !is_listed(meta, named.feature) {
         return Err(EditFault::WrongKind);
     }
-    meta.sound();
+    meta.recall_soundness();
     let target = live(alloc, look, target)?;
     let steps = link_steps(alloc, look, meta, &named.id, named.feature, &target, index)?;
     Ok(recorded(steps))
@@ -150,7 +150,7 @@ pub fn unlink<L: Look>(
     if !is_listed(meta, named.feature) {
         return Err(EditFault::WrongKind);
     }
-    meta.sound();
+    meta.recall_soundness();
     let target = entry(alloc, target)?;
     let steps = unlink_steps(alloc, look, meta, &named.id, named.feature, &target)?;
     Ok(recorded(steps))
@@ -174,7 +174,7 @@ pub fn reorder<L: Look>(
     if !is_listed(meta, named.feature) {
         return Err(EditFault::WrongKind);
     }
-    meta.sound();
+    meta.recall_soundness();
     let target = entry(alloc, target)?;
     let steps = reorder_steps(alloc, look, meta, &named.id, named.feature, &target, index)?;
     Ok(recorded(steps))

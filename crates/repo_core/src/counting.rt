@@ -74,8 +74,8 @@ pub fn elements_at_head(
     let Some(begun) = repo.begun() else {
         return Ok(0);
     };
-    repo.orderly();
-    begun.history.whole();
+    repo.recall_order();
+    begun.history.recall_wholeness();
     let head = begun.history.head(TRUNK);
     let model = version_state(alloc, cache, pool, repo, begun, head)?;
     id_count(alloc, model.graph())

@@ -32,7 +32,7 @@ pub(crate) fn version_state(
     ensures uses { Uses pool.old pool.new cache.old cache.new }
     ensures forms { HasForms repo.now pool.new cache.new }
 {
-    repo.orderly();
-    begun.meta.sound();
+    repo.recall_order();
+    begun.meta.recall_soundness();
     state_at(alloc, cache, pool, &begun.meta, &begun.history, v)
 }

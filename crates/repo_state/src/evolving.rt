@@ -57,7 +57,7 @@ impl Repo {
         ensures same { OnErr result (self.new ≡ self.old) }
         ensures cannot { IsErrOf result ReplayFault.NotPlayable → playable_with self.old self.old.meta (Evolve text.now) ≡ false }
     {
-        self.orderly();
+        self.recall_order();
         let meta = self.extended(alloc, text)?;
         let Some(begun) = &mut self.begun else {
             unreachable!()

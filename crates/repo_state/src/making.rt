@@ -148,7 +148,7 @@ impl Repo {
         let Some(begun) = &self.begun else {
             unreachable!()
         };
-        begun.meta.sound();
+        begun.meta.recall_soundness();
         match follow(model, &begun.meta, package.as_slice()) {
             Ok(()) => Ok(()),
             Err(fault) => Err(package_fault(fault)),
@@ -236,7 +236,7 @@ impl Repo {
         let Some(begun) = &self.begun else {
             unreachable!()
         };
-        begun.meta.sound();
+        begun.meta.recall_soundness();
         let Some(workspace) = &mut self.workspaces[at] else {
             unreachable!()
         };
@@ -256,7 +256,7 @@ impl Repo {
         let Some(begun) = &self.begun else {
             unreachable!()
         };
-        begun.meta.sound();
+        begun.meta.recall_soundness();
         let Some(workspace) = &mut self.workspaces[at] else {
             unreachable!()
         };

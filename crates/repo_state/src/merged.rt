@@ -59,7 +59,7 @@ impl Repo {
         let Some(begun) = &self.begun else {
             unreachable!()
         };
-        begun.meta.sound();
+        begun.meta.recall_soundness();
         self.sizes.grow(at, created(updated.theirs.as_slice()));
         let Some(workspace) = &mut self.workspaces[at] else {
             unreachable!()
@@ -81,7 +81,7 @@ impl Repo {
         let Some(begun) = &self.begun else {
             unreachable!()
         };
-        begun.meta.sound();
+        begun.meta.recall_soundness();
         self.sizes.grow(at, created(merged.more.as_slice()));
         let Some(workspace) = &mut self.workspaces[at] else {
             unreachable!()

@@ -77,7 +77,7 @@ impl Repo {
     }
 
     /// All is in order. A holder of any repository has it by this call, which does nothing.
-    pub fn orderly(&self)
+    pub fn recall_order(&self)
         ensures { IsOrderly self.now }
     {
         // For what the type's invariant says.
@@ -258,7 +258,7 @@ impl Repo {
         let Some(workspace) = &mut self.workspaces[at] else {
             unreachable!()
         };
-        begun.meta.sound();
+        begun.meta.recall_soundness();
         workspace.take_model(alloc, cache, pool, &begun.meta, &begun.history)
     }
 
@@ -274,7 +274,7 @@ impl Repo {
         let Some(begun) = &self.begun else {
             unreachable!()
         };
-        begun.meta.sound();
+        begun.meta.recall_soundness();
         let kept = to_keep(&self.recent, at, model);
         let Some(workspace) = &mut self.workspaces[at] else {
             unreachable!()

@@ -40,7 +40,7 @@ pub(crate) fn command_in(alloc: Global, text: &str) -> Result<Option<Command>, A
 fn branch_of(repo: &Repo, ws: u32) -> Option<&str>
     ensures { option_copied result ≡ option_map (λ w. branch_name repo.now.history w.branch) (workspace_of repo.now ws) }
 {
-    repo.orderly();
+    repo.recall_order();
     match repo.begun() {
         None => None,
         Some(begun) => match repo.workspace(ws) {

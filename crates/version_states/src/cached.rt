@@ -102,7 +102,7 @@ pub(crate) fn nearest(
     ensures uses { Uses pool.now pool.now cache.old cache.new }
     ensures forms { AreForms (Some meta.now) history.now.history (stands pool.now cache.new) }
 {
-    history.whole();
+    history.recall_wholeness();
     let mut back = Vec::new(alloc);
     back.push(v)?;
     let mut at = v;

@@ -155,7 +155,7 @@ fn stop_on(
     let Some(begun) = repo.begun() else {
         unreachable!()
     };
-    begun.meta.sound();
+    begun.meta.recall_soundness();
     stop_in(alloc, model, &begun.meta, package.as_slice())
 }
 
@@ -200,7 +200,7 @@ pub(crate) fn decide_revert(
         Ok(found) => found,
         Err(fault) => return Ok(refuse(alloc, unknown(fault))),
     };
-    repo.orderly();
+    repo.recall_order();
     let path = begun.history.path(alloc, workspace.base)?;
     if !holds(path.as_slice(), found.version) {
         return Ok(refuse(alloc, Refusal::NotOnPath));
@@ -226,7 +226,7 @@ fn decide_revert_of(
     ensures decision { IfOk result (λ d. let operations = package_at repo.now.history.versions version in seen d ≡ taken_out repo.now begun.now.meta ws (plain_of workspace.now) operations (first_interfering begun.now.meta repo.now.history.versions operations (path_after repo.now.history version workspace.now.base))) }
     ensures made { IfOk result (λ d. CanMakeIt repo.now d.made) }
 {
-    repo.orderly();
+    repo.recall_order();
     let history = &begun.history;
     let package = copy_operations(alloc, history.version(version).package.as_slice())?;
     let later = path_after(alloc, history, version, workspace.base)?;

@@ -49,7 +49,7 @@ fn make_version(
     ensures decision { IfOk result (λ d. seen d ≡ version_made repo.now (plain_of workspace.now) (version_event ws signature (unwrap_or message.now []))) }
     ensures made { IfOk result (λ d. CanMakeIt repo.now d.made) }
 {
-    repo.orderly();
+    repo.recall_order();
     let head = begun.history.head(workspace.branch);
     if workspace.base != head {
         return Ok(refuse(

@@ -38,7 +38,7 @@ pub(crate) fn decide_update(
     if workspace.is_open() {
         return Ok(refuse(alloc, Refusal::CompositeOpen));
     }
-    repo.orderly();
+    repo.recall_order();
     let plan = begun.update_plan(alloc, workspace)?;
     decide_update_of(alloc, repo, begun, ws, workspace, &plan.buckets, choices)
 }
@@ -101,7 +101,7 @@ pub(crate) fn decide_merge(
     if branch == workspace.branch {
         return Ok(refuse(alloc, Refusal::SameBranch));
     }
-    repo.orderly();
+    repo.recall_order();
     decide_merge_of(alloc, repo, begun, ws, workspace, branch, choices)
 }
 
@@ -124,7 +124,7 @@ fn decide_merge_of(
     ensures decision { IfOk result (λ d. seen d ≡ chosen (merge_buckets begun.now.meta repo.now.history (plain_of workspace.now) (head repo.now.history branch)) choices.now (merge_of repo.now ws (plain_of workspace.now) branch (unwrap_or choices.now []) (head repo.now.history branch))) }
     ensures made { IfOk result (λ d. CanMakeIt repo.now d.made) }
 {
-    repo.orderly();
+    repo.recall_order();
     let head = begun.history.head(branch);
     let plan = begun.merge_plan(alloc, workspace, head)?;
     decide_merge_by(

@@ -7,7 +7,7 @@ ghost use Rattle.repo_state.specs.Working.{IsWorkingModel};
 ghost use Rattle.repo_core.specs.Decisions.{seen, CanMakeIt};
 
 use crate::deciding::answers::{Decision, number_words, refuse, tell, with_room};
-use crate::deciding::models::settle;
+use crate::deciding::models::recall_settled;
 use edit_laws::EditFault;
 use edits::{Edit, Recorded};
 use emfjson_model::read_model;
@@ -78,8 +78,8 @@ pub(crate) fn decide_edit(
     let Some(model) = model else {
         return Ok(refuse(alloc, Refusal::NoWorkspace));
     };
-    settle(repo, begun, ws, workspace, model);
-    begun.meta.sound();
+    recall_settled(repo, begun, ws, workspace, model);
+    begun.meta.recall_soundness();
     let Recorded { operation, id } = match take_edit(alloc, model, &begun.meta, ws, edit) {
         Ok(recorded) => recorded,
         Err(fault) => match refusal_of(fault) {
@@ -115,13 +115,13 @@ pub(crate) fn decide_import(
     let Some(model) = model else {
         return Ok(refuse(alloc, Refusal::NoWorkspace));
     };
-    settle(repo, begun, ws, workspace, model);
+    recall_settled(repo, begun, ws, workspace, model);
     let doc = match read_model(alloc, text, &begun.meta) {
         Ok(doc) => doc,
         Err(ModelFault::Memory) => return Err(AllocError),
         Err(fault) => return Ok(refuse(alloc, Refusal::BadModel { n: fault.number() })),
     };
-    begun.meta.promised();
+    begun.meta.recall_promises();
     let operation = match import_doc(alloc, model, &begun.meta, ws, &doc) {
         Ok(operation) => operation,
         Err(fault) => match refusal_of(fault) {

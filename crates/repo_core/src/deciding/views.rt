@@ -13,7 +13,7 @@ ghost use Rattle.repo_state.specs.Working.{IsWorkingModel};
 ghost use Rattle.repo_core.specs.Decisions.{seen, CanMakeIt};
 
 use crate::deciding::answers::{Decision, refuse, tell_lines};
-use crate::deciding::models::settle;
+use crate::deciding::models::recall_settled;
 use crate::deciding::naming::{find, model_lines, text_of, unknown};
 use data_lines::{log_lines, open_lines, operation_lines, package_lines, validate_lines};
 use ecore_meta::Metamodel;
@@ -70,8 +70,8 @@ pub(crate) fn decide_changes(
     let Some(workspace) = repo.workspace(ws) else {
         return Ok(refuse(alloc, Refusal::NoWorkspace));
     };
-    repo.orderly();
-    begun.meta.sound();
+    repo.recall_order();
+    begun.meta.recall_soundness();
     let mut lines = operation_lines(alloc, workspace.operations(), &begun.meta)?;
     push_open_lines(alloc, &mut lines, workspace.composite(), &begun.meta)?;
     tell_lines(alloc, lines)
@@ -99,7 +99,7 @@ pub(crate) fn decide_show(
     let Some(model) = model else {
         return Ok(refuse(alloc, Refusal::NoWorkspace));
     };
-    settle(repo, begun, ws, workspace, model);
+    recall_settled(repo, begun, ws, workspace, model);
     let lines = model_lines(alloc, model, &begun.meta)?;
     tell_lines(alloc, lines)
 }
@@ -126,7 +126,7 @@ pub(crate) fn decide_validate(
     let Some(model) = model else {
         return Ok(refuse(alloc, Refusal::NoWorkspace));
     };
-    settle(repo, begun, ws, workspace, model);
+    recall_settled(repo, begun, ws, workspace, model);
     let lines = validate_lines(alloc, model, &begun.meta)?;
     tell_lines(alloc, lines)
 }
@@ -181,8 +181,8 @@ pub(crate) fn decide_package(
     if !is_package(&package) {
         return Ok(refuse(alloc, Refusal::TooLarge));
     }
-    repo.orderly();
-    begun.meta.sound();
+    repo.recall_order();
+    begun.meta.recall_soundness();
     let lines = package_lines(alloc, &package, &begun.meta)?;
     tell_lines(alloc, lines)
 }

@@ -11,5 +11,5 @@ returns-in-None c = λ p. no_features c.args.meta.now p ∙ ap (features_of c.ar
 pub returns-in-Some : goal.returns-in-Some
 returns-in-Some c = λ p.
     ap (filter (λ f. p (kind_of c.args.meta.now f))) c.features_of.ensures
-    ∙ features_are c.args.meta.now c.promised.ensures.lists c.in-Some.class p
+    ∙ features_are c.args.meta.now c.recall_promises.ensures.lists c.in-Some.class p
     ∙ ap (features_of c.args.meta.now p) (sym c.in-Some.is)

@@ -16,7 +16,7 @@ returns g c =
     let s = c.args.slot.now in
     let left : (ss : List AttrKey) → HasSlots c.args.before.now ss → c.as_slice-2.result.now ≡ targets_left meta row ss s =
     λ ss has. c.as_slice-2.ensures ∙ c.in_ok-left.ensures
-    ∙ (λ i. filter (λ (x : Entry). not (reached_is meta c.sound.ensures s.0 s.1 x.id c.args.before.now ss has i))
+    ∙ (λ i. filter (λ (x : Entry). not (reached_is meta c.recall_soundness.ensures s.0 s.1 x.id c.args.before.now ss has i))
     ((c.as_slice.ensures ∙ c.in_ok-targets.ensures) i)) in
     on_ok_weaker c.unlinks.result
     (λ made ss has. made ∙ (λ i. c.args.steps.now ++ unlinks row (c.opposite_of-opposite.ensures i) s.0 s.1 (left ss has i))) c.unlinks.ensures

@@ -13,6 +13,6 @@ returns g c =
     let e = c.args.e.now in
     on_ok_weaker c.unlink_incoming.result
     (λ made ss has. made ∙ (λ i. c.args.steps.now ++ map (incoming_unlink meta row e)
-    (filter (λ (x : Incoming). not (reached_is meta c.sound.ensures x.source x.feature e c.args.slots.now ss has i))
+    (filter (λ (x : Incoming). not (reached_is meta c.recall_soundness.ensures x.source x.feature e c.args.slots.now ss has i))
     ((c.as_slice.ensures ∙ c.in_ok-rows.ensures) i))))
     c.unlink_incoming.ensures

@@ -9,6 +9,6 @@ take_up-requires c =
       there = merge_there s s.meta c.args.ws c.args.branch c.args.letters.now c.in_ok-merged.ensures.could;
       closed = merge_closed s s.meta c.args.ws c.args.branch c.args.letters.now c.in_ok-merged.ensures.could;
       orderly = put_orderly s _
-          (Merge c.args.ws c.args.branch c.args.letters.now) c.in_ok-merged.ensures.could c.requires.spelled c.orderly.ensures
+          (Merge c.args.ws c.args.branch c.args.letters.now) c.in_ok-merged.ensures.could c.requires.spelled c.recall_order.ensures
           c.in_ok-merged.ensures.leads;
     }

@@ -22,5 +22,5 @@ returns-clause-model c =
     let w = plain_of c.in-Some-workspace.workspace.now in
     let begun : s.meta ≡ Some meta = c.in-Some.ensures.meta in
     let there = sym c.in-Some-workspace.ensures.found in
-    tidy_keeps s meta c.args.ws w c.in_ok-list.list c.orderly.ensures begun there (ap not (sym c.is_open.ensures.open ∙ c.if-is_open.false))
+    tidy_keeps s meta c.args.ws w c.in_ok-list.list c.recall_order.ensures begun there (ap not (sym c.is_open.ensures.open ∙ c.if-is_open.false))
     (c.in_ok-list.ensures.tidied ∙ ap (tidy meta) (c.in_ok-package.ensures.copied ∙ c.operations.ensures))

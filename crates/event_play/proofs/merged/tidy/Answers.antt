@@ -7,6 +7,6 @@ replace_operations-requires c =
     let s = c.args.repo.now in
     record {
       there = tidy_there s s.meta c.args.ws c.in_ok-operations.ensures.could;
-      orderly = put_orderly s _ (Tidy c.args.ws) c.in_ok-operations.ensures.could c.requires.spelled c.orderly.ensures c.in_ok-operations.ensures.leads;
+      orderly = put_orderly s _ (Tidy c.args.ws) c.in_ok-operations.ensures.could c.requires.spelled c.recall_order.ensures c.in_ok-operations.ensures.leads;
       model = c.in_ok-operations.ensures.model;
     }

@@ -9,6 +9,6 @@ update-requires c =
       there = update_there s s.meta c.args.ws c.args.letters.now c.in_ok-updated.ensures.could;
       closed = update_closed s s.meta c.args.ws c.args.letters.now c.in_ok-updated.ensures.could;
       orderly = put_orderly s _
-          (Update c.args.ws c.args.letters.now) c.in_ok-updated.ensures.could c.requires.spelled c.orderly.ensures c.in_ok-updated.ensures.leads;
+          (Update c.args.ws c.args.letters.now) c.in_ok-updated.ensures.could c.requires.spelled c.recall_order.ensures c.in_ok-updated.ensures.leads;
       theirs = c.in_ok-updated.ensures.theirs;
     }

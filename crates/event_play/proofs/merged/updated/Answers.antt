@@ -36,4 +36,4 @@ returns-clause-theirs c =
     let plan = c.in_ok-plan.plan in
     let at = c.head-head.ensures.head ∙ ap (λ (h : History). head h w.branch) (sym hist) in
     let theirs = c.in_ok-plan.ensures.plan.theirs ∙ ap (λ (h : History). incoming h w.branch w.base) (sym hist) in
-    update_theirs s meta c.args.ws w c.head-head.result plan.theirs c.orderly.ensures begun there at theirs
+    update_theirs s meta c.args.ws w c.head-head.result plan.theirs c.recall_order.ensures begun there at theirs

@@ -13,4 +13,4 @@ pub returns-clause-forms : goal.returns-clause-forms
 returns-clause-forms c =
     subst (λ (s : State). AreForms s.meta s.history (stands c.change.new.pool c.change.new.cache)) (sym c.set_journal.ensures.done)
     (subst (λ (s : State). AreForms s.meta s.history (stands c.change.new.pool c.change.new.cache)) (sym c.in_ok-change.ensures.done)
-    (forms_effect c.args.repo.now c.args.event c.change.new.pool c.change.new.cache c.orderly.ensures c.in_ok-change.ensures.could c.change.ensures.forms))
+    (forms_effect c.args.repo.now c.args.event c.change.new.pool c.change.new.cache c.recall_order.ensures c.in_ok-change.ensures.could c.change.ensures.forms))

@@ -10,7 +10,7 @@ use Rattle.feature_writers.proofs.writers.blame_lines.Goals as goal
 
 pub lines_on-requires-clause-rises : goal.lines_on-requires-clause-rises
 lines_on-requires-clause-rises c =
-    let rises = path_rises c.law_of_last_writes.ensures.asked c.args.meta.now c.args.history.now.history c.whole.ensures c.args.version c.requires.there in
+    let rises = path_rises c.law_of_last_writes.ensures.asked c.args.meta.now c.args.history.now.history c.recall_wholeness.ensures c.args.version c.requires.there in
     subst Rises (sym c.in_ok-path.ensures.path) rises
 
 pub returns : goal.returns
@@ -19,7 +19,7 @@ returns c =
     let h = c.args.history.now.history in
     let e = c.args.e.now in
     let same : (λ (f : ℕ). last_of (wrote_in c.in_ok-index.index e f) c.in_ok-path.path) ≡ last_write c.args.meta.now h c.args.version e =
-    λ i f. lasts_are laws.asked c.args.meta.now h c.whole.ensures c.args.version c.requires.there laws.last laws.one laws.found
+    λ i f. lasts_are laws.asked c.args.meta.now h c.recall_wholeness.ensures c.args.version c.requires.there laws.last laws.one laws.found
     c.in_ok-index.index c.in_ok-index.ensures c.in_ok-path.path c.in_ok-path.ensures.path e f i
     in
     subst (λ (last : ℕ → Option ℕ). IfOk c.lines_on.result (λ lines. lines ≡ lines_by c.args.meta.now last)) same c.lines_on.ensures

@@ -34,7 +34,7 @@ returns c =
     c.from_vec.ensures ∙ c.reverse.ensures.items
     ∙ sym (c.loop-at.invariant.found
     ∙ ap (λ (l : List ℕ). l ++ reverse c.loop-at.back.items)
-    (nothing_past h c.whole.ensures c.args.v c.loop-at.at c.loop-at.invariant.there c.loop-at-test.false)) in
+    (nothing_past h c.recall_wholeness.ensures c.args.v c.loop-at.at c.loop-at.invariant.there c.loop-at-test.false)) in
     record {
       path = found;
       there = subst (All below) (sym found) (All-filter (λ u. nat_lt c.args.v u) below (path h c.args.last) (path_there h c.args.last));

@@ -11,11 +11,11 @@ numbers_are c = c.in_ok-numbers.ensures ∙ (λ i. begun_by (c.in_ok-first.ensur
 pub new-requires-clause-order : goal.new-requires-clause-order
 new-requires-clause-order c =
     own_order (length c.args.next.now.classes) (orders c.args.old.now c.args.next.now).classes c.in_ok-numbers.numbers.items (numbers_are c)
-    (class_order c.args.old.now c.args.next.now c.promised.ensures c.promised-2.ensures)
+    (class_order c.args.old.now c.args.next.now c.recall_promises.ensures c.recall_promises-2.ensures)
 
 pub new-requires-clause-few : goal.new-requires-clause-few
 new-requires-clause-few c =
-    let long = (class_order c.args.old.now c.args.next.now c.promised.ensures c.promised-2.ensures).long in
+    let long = (class_order c.args.old.now c.args.next.now c.recall_promises.ensures c.recall_promises-2.ensures).long in
     let is = ap length (numbers_are c) in
     omega (arith, long, is, c.class_count.ensures, c.class_count.type_inv)
 
@@ -23,4 +23,4 @@ pub returns-clause-order : goal.returns-clause-order
 returns-clause-order c =
     let P : List ℕ → Type 0 = λ xs. IsOrder (length c.args.next.now.classes) xs in
     subst P (sym (c.in_ok-order.ensures ∙ c.in_ok-numbers.ensures ∙ (λ i. begun_by (c.in_ok-first.ensures i) (c.class_count.ensures i))))
-    (class_order c.args.old.now c.args.next.now c.promised.ensures c.promised-2.ensures)
+    (class_order c.args.old.now c.args.next.now c.recall_promises.ensures c.recall_promises-2.ensures)

@@ -10,6 +10,6 @@ of_parts-requires c =
     (record {
       few_classes = omega (arith, c.class_count-classes.ensures, c.class_count-classes.type_inv);
       few_features = omega (arith, c.feature_count-features.ensures, c.feature_count-features.type_inv);
-      is = c.promised.ensures;
+      is = c.recall_promises.ensures;
     })
     c.args.to.now c.requires.classes c.requires.features c.requires.enums)

@@ -15,4 +15,4 @@ unfolding evolved
 returns-clause-preserves c =
     subst (λ (m : Meta). Preserves c.args.old.now m)
     (sym (c.in_ok-meta.ensures ∙ ap (renumbered c.args.next) c.in_ok-to.ensures.numbers))
-    (evolved_preserves c.args.old.now c.args.next c.promised.ensures c.promised-2.ensures c.requires.extends)
+    (evolved_preserves c.args.old.now c.args.next c.recall_promises.ensures c.recall_promises-2.ensures c.requires.extends)

@@ -8,7 +8,7 @@ use Rattle.metamodel_growth.proofs.moved.above_moved.Goals as goal
 
 pub places-requires : goal.places-requires
 places-requires c = λ k h.
-    let low = c.promised.ensures.above.classes c.args.c k (sym (in_above c.args.next.now c.args.c k)
+    let low = c.recall_promises.ensures.above.classes c.args.c k (sym (in_above c.args.next.now c.args.c k)
     ∙ ap (λ xs. list_any (nat_eq k) xs) (sym (c.as_slice.ensures.value ∙ c.in_ok-classes.ensures)) ∙ h) in
     omega (arith, low, c.requires)
 

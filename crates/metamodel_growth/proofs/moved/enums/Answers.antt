@@ -7,7 +7,7 @@ use Rattle.metamodel_growth.proofs.moved.enums.Goals as goal
 pub push_enum-requires-clause-there : goal.push_enum-requires-clause-there
 push_enum-requires-clause-there c =
     let at = item_at c.numbers-e-items.result.now c.loop-e.e-index (get_or c.numbers-e-items.result.now c.loop-e.e-index 0) 0 c.loop-e-test.true refl in
-    let low = low_item c.args.order.now c.is_order.ensures.order c.loop-e.e-index (get_or c.numbers-e-items.result.now c.loop-e.e-index 0)
+    let low = low_item c.args.order.now c.recall_order.ensures.order c.loop-e.e-index (get_or c.numbers-e-items.result.now c.loop-e.e-index 0)
     (ap (λ xs. slice_get xs c.loop-e.e-index) (sym c.numbers-e-items.ensures) ∙ at) in
     omega (arith, low, c.requires)
 
@@ -22,4 +22,4 @@ loop-e-preserved c = (
 pub new-requires-clause-few : goal.new-requires-clause-few
 new-requires-clause-few c =
     few_found (λ k. slice_get c.args.next.now.enums k) c.numbers-e-items.result.now c.loop-e.e-index _ c.loop-e.moved.items c.loop-e.invariant.1
-    (omega (arith, ap length c.numbers-e-items.ensures, c.is_order.ensures.few))
+    (omega (arith, ap length c.numbers-e-items.ensures, c.recall_order.ensures.few))

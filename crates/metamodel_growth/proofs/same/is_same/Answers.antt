@@ -9,4 +9,4 @@ returns-clause-exact c =
     subst
     (λ same. IsTrue same ↔ (c.args.a.now ≡ c.args.b.now))
     (sym c.same_parts.ensures)
-    (same_is_equal c.args.a.now c.args.b.now c.promised.ensures c.promised-2.ensures)
+    (same_is_equal c.args.a.now c.args.b.now c.recall_promises.ensures c.recall_promises-2.ensures)

@@ -15,12 +15,12 @@ state_at-requires-clause-there c = subst (λ (h : History). c.args.v < length h.
 pub state_at-requires-clause-leads : goal.state_at-requires-clause-leads
 state_at-requires-clause-leads c =
     subst (λ (h : History). is_some (state_folded c.args.begun.now.meta h c.args.v) ≡ true) c.requires.history
-    (version_leads c.args.repo.now c.args.begun.now.meta c.orderly.ensures c.requires.meta c.args.v c.requires.there)
+    (version_leads c.args.repo.now c.args.begun.now.meta c.recall_order.ensures c.requires.meta c.args.v c.requires.there)
 
 pub state_at-requires-clause-spelled : goal.state_at-requires-clause-spelled
 state_at-requires-clause-spelled c =
     subst (λ (h : History). IsSpelled c.args.begun.now.meta (state_of c.args.begun.now.meta h c.args.v)) c.requires.history
-    (version_spelled c.args.repo.now c.args.begun.now.meta c.orderly.ensures c.requires.meta c.args.v c.requires.there)
+    (version_spelled c.args.repo.now c.args.begun.now.meta c.recall_order.ensures c.requires.meta c.args.v c.requires.there)
 
 pub state_at-requires-clause-forms : goal.state_at-requires-clause-forms
 state_at-requires-clause-forms c =

@@ -23,7 +23,7 @@ loop-parent-init c =
       there = c.requires.there;
       same = refl;
       missing = subst (All P) (sym pushed) (All-cons P c.args.v [] (λ other. absurd (other refl)) (All-nil P));
-      found = λ v there. sym (append-nil (path h c.args.v)) ∙ path_step h c.whole.ensures [] c.args.v v there
+      found = λ v there. sym (append-nil (path h c.args.v)) ∙ path_step h c.recall_wholeness.ensures [] c.args.v v there
           ∙ ap (λ l. path_of_parent h v.parent ++ reverse l) (sym pushed);
       uses = uses_none c.args.pool.now c.args.cache.now c.requires.usable;
       forms = c.requires.forms;
@@ -67,7 +67,7 @@ loop-parent-preserved c =
       there = omega (arith, before, c.loop-parent.invariant.there);
       found = λ v there. c.loop-parent.invariant.found c.version.result.now c.version.ensures.version
           ∙ ap (λ o. path_of_parent h o ++ reverse back) c.in-Some.is
-          ∙ path_step h c.whole.ensures back parent v there ∙ ap (λ l. path_of_parent h v.parent ++ reverse l) (sym pushed);
+          ∙ path_step h c.recall_wholeness.ensures back parent v there ∙ ap (λ l. path_of_parent h v.parent ++ reverse l) (sym pushed);
       uses = uses_on c.args.pool.now c.args.pool.now c.args.pool.now c.args.cache.now c.loop-parent.cache c.cached_state.new.cache
           c.loop-parent.invariant.uses c.cached_state.ensures.uses;
       forms = c.cached_state.ensures.forms;

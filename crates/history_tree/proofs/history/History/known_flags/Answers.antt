@@ -35,7 +35,7 @@ flag_all-requires-in-loop-v c =
     let version : Version = c.version-version.result.now in
     have_flags c.loop-v.flags.items (length h.versions) c.as_slice-in-loop-v.result.now c.loop-v.invariant.size
     (subst (λ (l : List ℕ). All (λ v. v < length h.versions) l) (sym c.as_slice-in-loop-v.ensures)
-    (merged_there h (get_or c.as_slice-v-items.result.now c.loop-v.v-index 0) version c.whole.ensures c.version-version.ensures.version))
+    (merged_there h (get_or c.as_slice-v-items.result.now c.loop-v.v-index 0) version c.recall_wholeness.ensures c.version-version.ensures.version))
 
 pub loop-v-preserved : goal.loop-v-preserved
 loop-v-preserved c =

@@ -11,7 +11,7 @@ loop-first-preserved c =
     record {
       first_there = omega (arith, c.loop-first.invariant.first_there, c.parent_of-first.ensures.before);
       second_there = c.loop-first.invariant.second_there;
-      same = common_first c.args.self.now.history c.whole.ensures first second c.parent_of-first.result c.loop-first.invariant.second_there later
+      same = common_first c.args.self.now.history c.recall_wholeness.ensures first second c.parent_of-first.result c.loop-first.invariant.second_there later
           c.parent_of-first.ensures.path ∙ c.loop-first.invariant.same;
     }
 
@@ -22,14 +22,14 @@ loop-first-preserved-then-first-second c =
     record {
       first_there = c.loop-first.invariant.first_there;
       second_there = omega (arith, c.loop-first.invariant.second_there, c.parent_of-second.ensures.before);
-      same = common_second c.args.self.now.history c.whole.ensures first second c.parent_of-second.result c.loop-first.invariant.first_there
+      same = common_second c.args.self.now.history c.recall_wholeness.ensures first second c.parent_of-second.result c.loop-first.invariant.first_there
           c.if-first-second.true c.parent_of-second.ensures.path ∙ c.loop-first.invariant.same;
     }
 
 found : (c : goal.After-loop-first) → c.loop-first.first ≡ last_common c.args.self.now.history c.args.a c.args.b
 found c =
     let h = c.args.self.now.history in
-    sym (common_same h c.whole.ensures c.loop-first.first c.loop-first.invariant.first_there)
+    sym (common_same h c.recall_wholeness.ensures c.loop-first.first c.loop-first.invariant.first_there)
     ∙ ap (λ k. last_common h c.loop-first.first k) c.loop-first-test.false
     ∙ c.loop-first.invariant.same
 
@@ -39,6 +39,6 @@ returns c =
     record {
       common = found c;
       last = subst (λ v. IsLastCommon h c.args.a c.args.b v) (sym (found c))
-          (common_last h c.whole.ensures c.args.a c.args.b c.requires.first c.requires.second);
+          (common_last h c.recall_wholeness.ensures c.args.a c.args.b c.requires.first c.requires.second);
       there = c.loop-first.invariant.first_there;
     }

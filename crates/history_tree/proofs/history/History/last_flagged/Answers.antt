@@ -14,5 +14,5 @@ loop-at-preserved c =
 
 pub returns-clause-last : goal.returns-clause-last
 returns-clause-last c =
-    sym (passes_last c.args.self.now.history c.whole.ensures
+    sym (passes_last c.args.self.now.history c.recall_wholeness.ensures
     (is_flagged c.args.flags.now) c.loop-at.at c.loop-at.invariant.there c.loop-at-test.false) ∙ c.loop-at.invariant.same

@@ -11,8 +11,8 @@ pub last_flagged-requires-clause-first : goal.last_flagged-requires-clause-first
 last_flagged-requires-clause-first c =
     let h = c.args.self.now.history in
     let pending : List ℕ = c.as_slice.result.now in
-    ap (λ (f : List Bool). is_flagged f 0) c.deref.ensures.value ∙ c.in_ok-flags.ensures.known 0 c.whole.ensures.some_version
-    ∙ known_first h c.whole.ensures c.args.base pending c.requires.base
+    ap (λ (f : List Bool). is_flagged f 0) c.deref.ensures.value ∙ c.in_ok-flags.ensures.known 0 c.recall_wholeness.ensures.some_version
+    ∙ known_first h c.recall_wholeness.ensures c.args.base pending c.requires.base
 
 found : (c : goal.After-drop-flags) → c.last_flagged.result ≡ merge_base c.args.self.now.history c.args.base c.args.pending.now c.args.other
 found c =
@@ -29,4 +29,4 @@ pub returns-clause-last : goal.returns-clause-last
 returns-clause-last c =
     let h = c.args.self.now.history in
     subst (λ v. IsMergeBase h c.args.base c.args.pending.now c.args.other v) (sym (found c))
-    (base_last h c.whole.ensures c.args.base c.args.pending.now c.args.other c.requires.base c.requires.other)
+    (base_last h c.recall_wholeness.ensures c.args.base c.args.pending.now c.args.other c.requires.base c.requires.other)

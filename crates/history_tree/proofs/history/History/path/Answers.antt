@@ -13,7 +13,7 @@ loop-parent-init c =
     let pushed : c.push.new.self.items ≡ c.args.v ∷ [] = grind (arith, c.in_ok-push.ensures.items, c.new-back.ensures.items) in
     record {
       there = c.requires.there;
-      found = λ v there. sym (append-nil (path h c.args.v)) ∙ path_step h c.whole.ensures [] c.args.v v there
+      found = λ v there. sym (append-nil (path h c.args.v)) ∙ path_step h c.recall_wholeness.ensures [] c.args.v v there
           ∙ ap (λ l. path_of_parent h v.parent ++ reverse l) (sym pushed);
     }
 
@@ -28,7 +28,7 @@ loop-parent-preserved c =
       there = omega (arith, before, c.loop-parent.invariant.there);
       found = λ v there. c.loop-parent.invariant.found c.version.result.now c.version.ensures.version
           ∙ ap (λ o. path_of_parent h o ++ reverse back) c.in-Some.is
-          ∙ path_step h c.whole.ensures back parent v there ∙ ap (λ l. path_of_parent h v.parent ++ reverse l) (sym pushed);
+          ∙ path_step h c.recall_wholeness.ensures back parent v there ∙ ap (λ l. path_of_parent h v.parent ++ reverse l) (sym pushed);
     }
 
 pub returns : goal.returns

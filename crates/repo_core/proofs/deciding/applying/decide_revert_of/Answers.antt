@@ -31,6 +31,6 @@ with_operations-requires c =
     ∙ ap (have_pair meta operations) (sym (c.in_ok-local.ensures.copied ∙ c.operations.ensures)) ∙ sym c.in_ok-have_pair.ensures.found
     ∙ c.if-branch.false in
     record {
-      could = revert_could s meta c.args.ws v w c.orderly.ensures c.requires.meta c.requires.there c.requires.closed c.requires.on_path free apart
+      could = revert_could s meta c.args.ws v w c.recall_order.ensures c.requires.meta c.requires.there c.requires.closed c.requires.on_path free apart
           c.in_ok-reversal.reversal (c.in_ok-reversal.ensures.reversed ∙ ap rev_package (sym here));
     }

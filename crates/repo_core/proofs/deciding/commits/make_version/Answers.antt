@@ -12,5 +12,5 @@ head-head-requires c =
     let w = plain_of c.args.workspace.now in
     record {
       there = subst (λ (h : History). w.branch < length h.branches) c.requires.history
-          (workspaces_stand s meta w (is_there s meta c.args.ws w c.orderly.ensures c.requires.meta c.requires.there)).branch;
+          (workspaces_stand s meta w (is_there s meta c.args.ws w c.recall_order.ensures c.requires.meta c.requires.there)).branch;
     }

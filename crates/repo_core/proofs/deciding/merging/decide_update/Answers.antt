@@ -27,7 +27,7 @@ decide_update_of-requires-clause-branch c =
     let meta = c.args.begun.now.meta in
     let w = plain_of c.in-Some.workspace.now in
     subst (λ (h : History). w.branch < length h.branches) c.requires.history
-    (workspaces_stand s meta w (is_there s meta c.args.ws w c.orderly.ensures c.requires.meta (sym c.in-Some.ensures.found))).branch
+    (workspaces_stand s meta w (is_there s meta c.args.ws w c.recall_order.ensures c.requires.meta (sym c.in-Some.ensures.found))).branch
 
 pub returns-clause-decision : goal.returns-clause-decision
 returns-clause-decision c =

@@ -8,8 +8,8 @@ use Rattle.repo_core.proofs.Playable.{each_could, edit_could}
 use Rattle.repo_core.proofs.Following.{recorded_follows}
 use Rattle.repo_core.proofs.deciding.recording.decide_edit.Goals as goal
 
-pub settle-requires : goal.settle-requires
-settle-requires c = record {
+pub recall_settled-requires : goal.recall_settled-requires
+recall_settled-requires c = record {
   meta = c.requires.meta;
   there = sym c.in-Some.ensures.found;
   model = subst (λ r. IfSome r (λ m. IsWorkingModel c.args.repo.now c.args.ws m.now)) c.in-Some-model.is c.requires.model;
@@ -23,7 +23,7 @@ with_operation-requires c =
     record {
       could = each_could c.in-Ok.recorded.operation _ (λ o is.
           edit_could s s.meta meta c.args.ws w o c.requires.meta (sym c.in-Some.ensures.found)
-          (subst (λ (n : models.State). is_some (fold_package meta n (o ∷ [])) ≡ true) c.settle.ensures.model
-          (recorded_follows meta c.sound.ensures c.in-Some-model.model.now c.settle.ensures.good c.args.ws c.args.edit.now c.in-Ok.recorded o
+          (subst (λ (n : models.State). is_some (fold_package meta n (o ∷ [])) ≡ true) c.recall_settled.ensures.model
+          (recorded_follows meta c.recall_soundness.ensures c.in-Some-model.model.now c.recall_settled.ensures.good c.args.ws c.args.edit.now c.in-Ok.recorded o
           c.in-Ok.ensures.recorded is)));
     }

@@ -11,15 +11,15 @@ use Rattle.repo_core.proofs.Playable.{each_could, edit_could}
 use Rattle.repo_core.proofs.Following.{imported_follows}
 use Rattle.repo_core.proofs.deciding.recording.decide_import.Goals as goal
 
-pub settle-requires : goal.settle-requires
-settle-requires c = record {
+pub recall_settled-requires : goal.recall_settled-requires
+recall_settled-requires c = record {
   meta = c.requires.meta;
   there = sym c.in-Some.ensures.found;
   model = subst (λ r. IfSome r (λ m. IsWorkingModel c.args.repo.now c.args.ws m.now)) c.in-Some-model.is c.requires.model;
 }
 
 pub import_doc-requires : goal.import_doc-requires
-import_doc-requires c = record { fits = documents_fit c.args.begun.now.meta c.promised.ensures c.args.text.now c.in-Ok.doc.rows c.in-Ok.ensures.read }
+import_doc-requires c = record { fits = documents_fit c.args.begun.now.meta c.recall_promises.ensures c.args.text.now c.in-Ok.doc.rows c.in-Ok.ensures.read }
 
 pub with_operation-requires : goal.with_operation-requires
 with_operation-requires c =
@@ -29,8 +29,8 @@ with_operation-requires c =
     record {
       could = each_could c.in-Ok-import_doc.operation _ (λ o is.
           edit_could s s.meta meta c.args.ws w o c.requires.meta (sym c.in-Some.ensures.found)
-          (subst (λ (n : models.State). is_some (fold_package meta n (o ∷ [])) ≡ true) c.settle.ensures.model
-          (imported_follows meta c.promised.ensures c.in-Some-model.model.now c.settle.ensures.good c.args.ws c.args.text.now c.in-Ok.doc.rows o
+          (subst (λ (n : models.State). is_some (fold_package meta n (o ∷ [])) ≡ true) c.recall_settled.ensures.model
+          (imported_follows meta c.recall_promises.ensures c.in-Some-model.model.now c.recall_settled.ensures.good c.args.ws c.args.text.now c.in-Ok.doc.rows o
           c.in-Ok.ensures.read
           (subst (λ (p : Option Operation). Imports meta c.in-Some-model.model.now c.args.ws c.in-Ok.doc.rows (Ok p)) is c.in-Ok-import_doc.ensures.made))));
     }

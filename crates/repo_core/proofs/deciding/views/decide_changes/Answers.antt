@@ -9,17 +9,17 @@ use Rattle.repo_core.proofs.deciding.views.decide_changes.Goals as goal
 pub operation_lines-requires : goal.operation_lines-requires
 operation_lines-requires c =
     let w = c.in-Some.workspace.now in
-    let there = is_there c.args.repo.now c.args.begun.now.meta c.args.ws (plain_of w) c.orderly.ensures c.requires.meta (sym c.in-Some.ensures.found) in
+    let there = is_there c.args.repo.now c.args.begun.now.meta c.args.ws (plain_of w) c.recall_order.ensures c.requires.meta (sym c.in-Some.ensures.found) in
     record {
       typed = subst (IsTypedPackage c.args.begun.now.meta) (sym c.operations.ensures)
-          (operations_typed c.args.repo.now c.args.begun.now.meta (plain_of w) c.sound.ensures there);
+          (operations_typed c.args.repo.now c.args.begun.now.meta (plain_of w) c.recall_soundness.ensures there);
     }
 
 pub push_open_lines-requires : goal.push_open_lines-requires
 push_open_lines-requires c =
     let w = c.in-Some.workspace.now in
-    let there = is_there c.args.repo.now c.args.begun.now.meta c.args.ws (plain_of w) c.orderly.ensures c.requires.meta (sym c.in-Some.ensures.found) in
+    let there = is_there c.args.repo.now c.args.begun.now.meta c.args.ws (plain_of w) c.recall_order.ensures c.requires.meta (sym c.in-Some.ensures.found) in
     record {
       typed = seen_typed c.args.begun.now.meta w c.composite.result
-          (open_typed c.args.repo.now c.args.begun.now.meta (plain_of w) c.sound.ensures there) c.composite.ensures;
+          (open_typed c.args.repo.now c.args.begun.now.meta (plain_of w) c.recall_soundness.ensures there) c.composite.ensures;
     }

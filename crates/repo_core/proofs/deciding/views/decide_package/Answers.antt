@@ -12,6 +12,6 @@ package_lines-requires-clause-typed c =
     let back = sym c.requires.history in
     let same = c.in_ok-package.ensures.copied ∙ c.as_slice.ensures in
     subst (IsTypedPackage c.args.begun.now.meta) (sym same)
-    (version_typed c.args.repo.now c.args.begun.now.meta v version c.sound.ensures c.orderly.ensures c.requires.meta
+    (version_typed c.args.repo.now c.args.begun.now.meta v version c.recall_soundness.ensures c.recall_order.ensures c.requires.meta
     (subst (λ (h : History). slice_get h.versions v ≡ Some version) back c.version-version.ensures.version)
     c.version-version.ensures.parent (subst (λ (h : History). v < length h.versions) back c.in-Ok.ensures.version))

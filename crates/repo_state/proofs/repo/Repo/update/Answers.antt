@@ -21,7 +21,7 @@ update-requires-clause-base c =
     let is_begun = begun_is c.self.inside.begun begun _ c.self.inside.events c.self.inside.end s c.self.view_is c.in-Some-begun.is in
     let hist = history_is c.self.inside.begun begun _ c.self.inside.events c.self.inside.end s c.self.view_is c.in-Some-begun.is in
     base_good s begun.meta begun.history.history c.args.ws (plain_of w) is_begun hist (placed_there p)
-    (subst IsOrderly c.self.view_is c.self.invariant.2) c.sound.ensures
+    (subst IsOrderly c.self.view_is c.self.invariant.2) c.recall_soundness.ensures
 
 pub update-requires-clause-closed : goal.update-requires-clause-closed
 update-requires-clause-closed c =

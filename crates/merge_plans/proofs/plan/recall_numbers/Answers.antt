@@ -2,7 +2,7 @@ use Rattle.std.proofs.Common.{List, subst, sym, arith}
 use Rattle.std.specs.Prelude.{All}
 use Rattle.footprint.specs.declared.bucket.Bucket.{Bucket}
 use Rattle.merge_plans.proofs.Numbered.{HaveNumbers, numbered}
-use Rattle.merge_plans.proofs.plan.numbered.Goals as goal
+use Rattle.merge_plans.proofs.plan.recall_numbers.Goals as goal
 
 pub returns : goal.returns
 returns c = record {

@@ -1,5 +1,5 @@
 use Rattle.repo_state.specs.Keeping.{plain_of}
-use Rattle.repo_core.proofs.deciding.models.settle.Goals as goal
+use Rattle.repo_core.proofs.deciding.models.recall_settled.Goals as goal
 
 pub returns-clause-model : goal.returns-clause-model
 returns-clause-model c = (c.requires.model c.args._begun.now.meta (plain_of c.args._workspace.now) c.requires.meta c.requires.there).0
