@@ -12,8 +12,8 @@ use Rattle.model_state.specs.declared.operation.Operation.{Operation}
 use Rattle.model_state.specs.declared.operation.Operation.TheVariants.{Simple}
 use Rattle.model_laws.specs.Cells.{step_writes, step_reads}
 use Rattle.footprint.specs.Interference.{op_writes, op_reads}
-use Rattle.step_pairs.specs.Joins.{joined}
-use Rattle.tidy_laws.specs.Rules.{takes_back, joined_op, met}
+use Rattle.merge_laws.specs.Joins.{joined}
+use Rattle.merge_laws.specs.Rules.{takes_back, joined_op, met}
 
 chosen : (b : Bool) (u v : Step) → cond b (Some v) None ≡ Some u → v ≡ u
 chosen true u v h = cc

@@ -13,8 +13,8 @@ use Rattle.footprint.specs.Prints.{shown, printed}
 use Rattle.footprint.proofs.Printed.{as_many, print_at}
 use Rattle.cell_index.specs.Standing.{touch, prints_touch, Hit, LastHit, IsLast}
 use Rattle.cell_index.proofs.Touching.{print_same}
-use Rattle.tidy_laws.specs.Rules.{met, NoRule, Settles, more, done}
-use Rattle.tidy_laws.specs.Tidy.{onto, Unmet, Settled}
+use Rattle.merge_laws.specs.Rules.{met, NoRule, Settles, more, done}
+use Rattle.merge_laws.specs.Tidy.{onto, Unmet, Settled}
 use Rattle.canoniser.specs.Meetings.{list_of, kept, touches, Apart, RuleAt, NoRuleAt, Calm, Ready, Leads, stands_out, ops_out, place_left}
 use Rattle.canoniser.proofs.Cells.{met_print}
 use Rattle.canoniser.proofs.Moves.{settled_rule, stays, passes_all, passes_stop, others_settled, left_apart, rule_taken}

@@ -3,7 +3,7 @@ use Rattle.std.proofs.Common.{◌≡◌, Bool, true, false, cond, [], ◌∷◌,
 use Rattle.std.specs.Prelude.{Option, None, Some, is_some}
 use Rattle.std.specs.Option.{option_map}
 use Rattle.model_state.specs.declared.operation.Operation.{Operation}
-use Rattle.tidy_laws.specs.Rules.{takes_back, joined_op, met}
+use Rattle.merge_laws.specs.Rules.{takes_back, joined_op, met}
 use Rattle.canoniser.specs.Meetings.{list_of}
 
 tested : (t : Bool) (o : Option Operation) → is_some (cond t (Some []) (option_map (λ c. c ∷ []) o)) ≡ t || is_some o

@@ -6,10 +6,10 @@ use Rattle.ecore_meta.specs.Meta.{Meta}
 use Rattle.model_state.specs.declared.operation.Operation.{Operation}
 use Rattle.footprint.specs.Interference.{interferes, Free}
 use Rattle.footprint.proofs.Pairs.{symmetric_false}
-use Rattle.tidy_laws.specs.Rules.{met, NoneMet, NoRule, OneRule}
-use Rattle.tidy_laws.specs.Tidy.{onto, Unmet, Settled}
-use Rattle.tidy_laws.proofs.Lists.{onto_front, onto_append}
-use Rattle.tidy_laws.proofs.Search.{no_rule, settled_first}
+use Rattle.merge_laws.specs.Rules.{met, NoneMet, NoRule, OneRule}
+use Rattle.merge_laws.specs.Tidy.{onto, Unmet, Settled}
+use Rattle.merge_laws.proofs.Lists.{onto_front, onto_append}
+use Rattle.merge_laws.proofs.Search.{no_rule, settled_first}
 use Rattle.canoniser.specs.Meetings.{list_of, touches, Apart}
 use Rattle.canoniser.proofs.Cells.{met_print}
 use Rattle.canoniser.proofs.Touches.{Alike, no_clash, alike_apart, met_alike, alike_print, apart_none, apart_none_back, touch_stops}

@@ -6,7 +6,7 @@ use Rattle.finite_maps.proofs.Cases.{not_so}
 use Rattle.model_state.specs.declared.step.Step.{Step}
 use Rattle.model_state.specs.Steps.{rev, rev_all}
 use Rattle.model_laws.proofs.Packages.{rev_append}
-use Rattle.step_pairs.specs.Joins.{step_eq, steps_eq}
+use Rattle.merge_laws.specs.Joins.{step_eq, steps_eq}
 
 same_length : (xs ys : List Step) → steps_eq xs ys ≡ true → length xs ≡ length ys
 same_length [] [] h = refl

@@ -4,9 +4,9 @@ use Rattle.std.specs.List.{list_all}
 use Rattle.std.proofs.lemmas.Bool.{eqb-true, eqb-false}
 use Rattle.ecore_meta.specs.Meta.{Meta}
 use Rattle.model_state.specs.declared.operation.Operation.{Operation}
-use Rattle.tidy_laws.specs.Split.{is_single}
-use Rattle.tidy_laws.specs.Tidy.{tidy, is_tidy}
-use Rattle.tidy_laws.proofs.Equal.{tidy_test_is_exact, tidy_length, tidy_single}
+use Rattle.merge_laws.specs.Split.{is_single}
+use Rattle.merge_laws.specs.Tidy.{tidy, is_tidy}
+use Rattle.merge_laws.proofs.Equal.{tidy_test_is_exact, tidy_length, tidy_single}
 use Rattle.std.proofs.Common.{ap}
 
 -- a test that can't hold doesn't

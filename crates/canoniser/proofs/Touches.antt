@@ -20,9 +20,9 @@ use Rattle.model_laws.proofs.Exchange.{has_append}
 use Rattle.footprint.specs.Interference.{op_writes, op_reads, interferes}
 use Rattle.footprint.proofs.Pairs.{keep_apart, interferes_not}
 use Rattle.cell_index.specs.Standing.{is_none}
-use Rattle.step_pairs.specs.Joins.{step_eq, steps_eq, joined}
-use Rattle.step_pairs.proofs.Equal.{step_equality}
-use Rattle.tidy_laws.specs.Rules.{takes_back, joined_op, met}
+use Rattle.merge_laws.specs.Joins.{step_eq, steps_eq, joined}
+use Rattle.merge_laws.proofs.StepEqual.{step_equality}
+use Rattle.merge_laws.specs.Rules.{takes_back, joined_op, met}
 use Rattle.canoniser.specs.Meetings.{touches}
 use Rattle.canoniser.proofs.Leaving.{back_left}
 

@@ -4,7 +4,7 @@ use Rattle.std.specs.Prelude.{Option, None, Some, MatchOption, IfSome}
 use Rattle.model_state.specs.declared.operation.Operation.{Operation}
 use Rattle.footprint.specs.declared.cell.Print.{Print}
 use Rattle.cell_index.specs.Standing.{LastHit}
-use Rattle.tidy_laws.specs.Rules.{met}
+use Rattle.merge_laws.specs.Rules.{met}
 use Rattle.canoniser.specs.declared.search.Found.{Found}
 use Rattle.canoniser.specs.Meetings.{list_of, RuleAt, NoRuleAt}
 

@@ -5,8 +5,8 @@ use Rattle.model_state.specs.declared.operation.Operation.{Operation}
 use Rattle.footprint.specs.declared.cell.Print.{Print}
 use Rattle.footprint.specs.Interference.{op_writes, op_reads}
 use Rattle.cell_index.specs.Standing.{touch, LastHit, IsLast}
-use Rattle.tidy_laws.specs.Rules.{met, Settles}
-use Rattle.tidy_laws.specs.Tidy.{onto, Settled}
+use Rattle.merge_laws.specs.Rules.{met, Settles}
+use Rattle.merge_laws.specs.Tidy.{onto, Settled}
 
 -- the operation, if any, as a list
 abbrev pub list_of : Option Operation → List Operation

@@ -1,8 +1,8 @@
 //! What a rule leaves of two operations.
 ghost use Rattle.std.specs.Prelude.{◌≡◌, ◌∷◌, [], true, Some, is_some, IfOk};
 ghost use Rattle.model_state.specs.declared.operation.Operation.TheVariants.{Simple};
-ghost use Rattle.step_pairs.specs.Joins.{joined};
-ghost use Rattle.tidy_laws.specs.Rules.{joined_op, met};
+ghost use Rattle.merge_laws.specs.Joins.{joined};
+ghost use Rattle.merge_laws.specs.Rules.{joined_op, met};
 ghost use Rattle.canoniser.specs.Meetings.{list_of};
 
 use crate::undoing::takes_back;

@@ -2,8 +2,8 @@
 ghost use Rattle.std.specs.Prelude.{◌≡◌, ◌++◌, ◌∷◌, [], IfOk, OnOk};
 ghost use Rattle.model_state.specs.declared.operation.Operation.TheVariants.{Simple, Composite};
 ghost use Rattle.std.specs.List.{list_all};
-ghost use Rattle.tidy_laws.specs.Equal.{kind_eq};
-ghost use Rattle.tidy_laws.specs.Split.{own_kind, singles, split, is_single};
+ghost use Rattle.merge_laws.specs.Equal.{kind_eq};
+ghost use Rattle.merge_laws.specs.Split.{own_kind, singles, split, is_single};
 
 use crate::joining::single;
 use model_state::{OpKind, Operation, Step};

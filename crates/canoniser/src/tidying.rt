@@ -1,8 +1,8 @@
 //! The call that tidies a package.
 ghost use Rattle.std.specs.Prelude.{◌≡◌, IfOk};
-ghost use Rattle.tidy_laws.specs.Split.{split as split_of};
-ghost use Rattle.tidy_laws.specs.Rules.{Settles};
-ghost use Rattle.tidy_laws.specs.Tidy.{tidy, is_tidy, Normal};
+ghost use Rattle.merge_laws.specs.Split.{split as split_of};
+ghost use Rattle.merge_laws.specs.Rules.{Settles};
+ghost use Rattle.merge_laws.specs.Tidy.{tidy, is_tidy, Normal};
 
 use crate::splitting::{are_single, split};
 use crate::turns::{keep, settle};

@@ -2,7 +2,7 @@
 ghost use Rattle.std.specs.Prelude.{◌≡◌, ◌<◌, ◌≤◌, ◌+◌, ◌++◌, ◌∷◌, [], IfOk, OnOk, IfSome, length, MatchOption};
 ghost use Rattle.footprint.specs.Prints.{shown, printed};
 ghost use Rattle.cell_index.specs.Standing.{ListsStanding};
-ghost use Rattle.tidy_laws.specs.Rules.{Settles};
+ghost use Rattle.merge_laws.specs.Rules.{Settles};
 ghost use Rattle.canoniser.specs.Meetings.{kept, stands_out, ops_out, place_left, Calm, Ready, Leads};
 
 use crate::search::{Found, nearest};

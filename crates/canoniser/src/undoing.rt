@@ -3,8 +3,8 @@ ghost use Rattle.std.specs.Prelude.{◌≡◌};
 ghost use Rattle.finite_maps.specs.Equal.{list_eq, text_eq};
 ghost use Rattle.model_state.specs.declared.step.Step.TheVariants.{Put, Ins, Del, Shift, Link, Unlink, RerankRow, New, Gone, Move, RerankPlace};
 ghost use Rattle.model_state.specs.Steps.{rev, rev_all};
-ghost use Rattle.step_pairs.specs.Joins.{step_eq, steps_eq};
-ghost use Rattle.tidy_laws.specs.Rules.{takes_back};
+ghost use Rattle.merge_laws.specs.Joins.{step_eq, steps_eq};
+ghost use Rattle.merge_laws.specs.Rules.{takes_back};
 
 use ecore_meta::Value;
 use model_state::{Id, Operation, Place, Step, is_same_option, is_same_value};

@@ -10,7 +10,7 @@ use Rattle.footprint.specs.Prints.{cells, shown, printed}
 use Rattle.footprint.proofs.Held.{prints_tell}
 use Rattle.footprint.proofs.Pairs.{interference_is_symmetric}
 use Rattle.cell_index.specs.Near.{prints_interfere}
-use Rattle.bucket_laws.specs.Pairs.{have_pair}
+use Rattle.merge_laws.specs.Pairs.{have_pair}
 use Rattle.conflict_buckets.proofs.Empty.{drop_past}
 
 -- does one of the operations interfere with that one

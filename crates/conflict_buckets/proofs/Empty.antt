@@ -3,7 +3,7 @@ use Rattle.std.proofs.Common.{◌≡◌, ℕ, zero, suc, ◌≤◌, List, [], �
 use Rattle.ecore_meta.specs.Meta.{Meta}
 use Rattle.model_state.specs.declared.operation.Operation.{Operation}
 use Rattle.footprint.specs.Buckets.{labels, mixed, places, rows, buckets}
-use Rattle.bucket_laws.proofs.Exact.{labels_length}
+use Rattle.merge_laws.proofs.Exact.{labels_length}
 
 pub drop_past : {A : Type 0} (xs : List A) (n : ℕ) → length xs ≤ n → drop n xs ≡ []
 drop_past [] zero h = refl

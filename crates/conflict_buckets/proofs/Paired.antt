@@ -8,8 +8,8 @@ use Rattle.footprint.specs.Interference.{interferes, cells_interfere}
 use Rattle.footprint.specs.declared.cell.Print.{Print}
 use Rattle.footprint.specs.Prints.{cells, shown, printed}
 use Rattle.footprint.proofs.Printed.{pair_tells}
-use Rattle.bucket_laws.proofs.Exact.{at_place}
-use Rattle.bucket_laws.specs.Pairs.{pairs_with, pairs_from}
+use Rattle.merge_laws.proofs.Exact.{at_place}
+use Rattle.merge_laws.specs.Pairs.{pairs_with, pairs_from}
 use Rattle.conflict_buckets.proofs.Empty.{drop_past}
 
 pairs_open : (meta : Meta) (ts ms : List Operation) (i : ℕ) (found whole : List (ℕ × ℕ)) (a : Operation) → i < length ts → a ≡ get_or ts i a

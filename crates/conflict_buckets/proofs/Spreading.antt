@@ -16,9 +16,9 @@ use Rattle.footprint.specs.Prints.{cells, shown, printed}
 use Rattle.footprint.specs.Buckets.{labels}
 use Rattle.footprint.proofs.Pairs.{meets_turned}
 use Rattle.footprint.proofs.Printed.{as_many, places_tell}
-use Rattle.bucket_laws.specs.Classes.{Linked, here, next}
-use Rattle.bucket_laws.proofs.Exact.{at_place, labels_length}
-use Rattle.bucket_laws.proofs.Linked.{linked_turn, labels_are_least}
+use Rattle.merge_laws.specs.Classes.{Linked, here, next}
+use Rattle.merge_laws.proofs.Exact.{at_place, labels_length}
+use Rattle.merge_laws.proofs.Linked.{linked_turn, labels_are_least}
 use Rattle.cell_index.specs.Near.{prints_interfere, IsMet, AllMet}
 use Rattle.cell_index.proofs.Rows.{same_or_not}
 use Rattle.conflict_buckets.specs.Spread.{Meets, unset, AreLinked, AreSpread, Further}

@@ -5,7 +5,7 @@ use Rattle.ecore_meta.specs.Meta.{Meta}
 use Rattle.model_state.specs.declared.operation.Operation.{Operation}
 use Rattle.footprint.specs.declared.cell.Print.{Print}
 use Rattle.footprint.specs.Prints.{shown, printed}
-use Rattle.bucket_laws.specs.Classes.{Linked}
+use Rattle.merge_laws.specs.Classes.{Linked}
 use Rattle.cell_index.specs.Near.{prints_interfere}
 
 -- the operations at the two places interfere

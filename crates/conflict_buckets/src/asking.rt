@@ -1,6 +1,6 @@
 //! Whether an operation of one package interferes with one of others, which are asked about one after another.
 ghost use Rattle.std.specs.Prelude.{◌≡◌, IfOk};
-ghost use Rattle.bucket_laws.specs.Pairs.{have_pair};
+ghost use Rattle.merge_laws.specs.Pairs.{have_pair};
 ghost use Rattle.conflict_buckets.specs.Indexed.{IsIndexOf};
 
 use cell_index::{CellIndex, index_of};

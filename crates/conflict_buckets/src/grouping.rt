@@ -1,8 +1,8 @@
 //! The buckets, by the labels of the operations.
 ghost use Rattle.std.specs.Prelude.{ℕ, ◌≡◌, ◌<◌, ◌++◌, IfOk, OnOk, length};
 ghost use Rattle.footprint.specs.Buckets.{mixed, places, rows, buckets};
-ghost use Rattle.bucket_laws.specs.Classes.{AreClasses};
-ghost use Rattle.bucket_laws.specs.Order.{InOrder};
+ghost use Rattle.merge_laws.specs.Classes.{AreClasses};
+ghost use Rattle.merge_laws.specs.Order.{InOrder};
 ghost use Rattle.cell_index.specs.Near.{list_at};
 ghost use Rattle.conflict_buckets.specs.Tables.{IsPut};
 

@@ -3,7 +3,7 @@ ghost use Rattle.std.specs.Prelude.{◌≡◌, ℕ, ◌<◌, ◌++◌, List, IfO
 ghost use Rattle.ecore_meta.specs.Meta.{Meta};
 ghost use Rattle.model_state.specs.declared.operation.Operation.{Operation};
 ghost use Rattle.footprint.specs.Prints.{shown, printed};
-ghost use Rattle.bucket_laws.specs.Pairs.{pairs, pairs_with};
+ghost use Rattle.merge_laws.specs.Pairs.{pairs, pairs_with};
 ghost use Rattle.footprint.specs.declared.cell.Print as prints;
 
 use ecore_meta::Metamodel;

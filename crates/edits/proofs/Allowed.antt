@@ -8,13 +8,13 @@ use Rattle.model_state.specs.Keys.{IdBytes}
 use Rattle.model_state.specs.Listing.{targets, values_at}
 use Rattle.model_state.specs.State.{State, is_live}
 use Rattle.model_state.specs.Steps.{value_fits, not_default}
-use Rattle.edit_laws.specs.declared.fault.EditFault.{EditFault}
-use Rattle.edit_laws.specs.References.{MaySet, MayLink, MayReorder}
-use Rattle.edit_laws.specs.Attributes.{IsAttribute}
-use Rattle.edit_laws.specs.ManyValues.{IsMany, MayInsert}
-use Rattle.edit_laws.specs.Places.{MayCreate}
-use Rattle.containment.specs.Refusals.{IsPlace, move_refusal}
-use Rattle.containment.specs.Containers.{containers_of}
+use Rattle.edit_steps.specs.declared.fault.EditFault.{EditFault}
+use Rattle.edit_steps.specs.References.{MaySet, MayLink, MayReorder}
+use Rattle.edit_steps.specs.Attributes.{IsAttribute}
+use Rattle.edit_steps.specs.ManyValues.{IsMany, MayInsert}
+use Rattle.edit_steps.specs.Places.{MayCreate}
+use Rattle.edit_steps.specs.MoveRefusals.{IsPlace, move_refusal}
+use Rattle.edit_steps.specs.Containers.{containers_of}
 use Rattle.edits.specs.Edits.{Effect, Creates, Moves, Deletes, Puts, Clears, Inserts, Removes, Shifts, Refers, Forgets, Links, Unlinks, Reorders}
 
 -- an element may move to a place

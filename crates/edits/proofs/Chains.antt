@@ -9,12 +9,12 @@ use Rattle.model_state.specs.State.{State}
 use Rattle.model_state.specs.Steps.{place_live}
 use Rattle.model_state.specs.Good.{Good}
 use Rattle.model_state.specs.Chains.{IsChain}
-use Rattle.containment.specs.declared.fault.MoveFault.{MoveFault}
-use Rattle.containment.specs.Refusals.{IsRefusal, move_refusal, place_of}
-use Rattle.containment.specs.Moves.{IsMove, HasRefusal, IsMoveRefusal, move_made}
-use Rattle.containment.proofs.Containers.{has_chain}
-use Rattle.containment.specs.Containers.{containers_of}
-use Rattle.containment.proofs.ContainerLists.{containers_are_chain}
+use Rattle.edit_steps.specs.declared.move_fault.MoveFault.{MoveFault}
+use Rattle.edit_steps.specs.MoveRefusals.{IsRefusal, move_refusal, place_of}
+use Rattle.edit_steps.specs.Moves.{IsMove, HasRefusal, IsMoveRefusal, move_made}
+use Rattle.edit_steps.proofs.Containers.{has_chain}
+use Rattle.edit_steps.specs.Containers.{containers_of}
+use Rattle.edit_steps.proofs.ContainerLists.{containers_are_chain}
 
 module _ (meta : Meta) (m : State) (good : Good meta m) where
   containers_are : (p : Place) (xs : List IdBytes) → IsChain m.place (Some p) xs → containers_of m p ≡ xs

@@ -14,8 +14,8 @@ use Rattle.model_state.specs.Ident.{is_id}
 use Rattle.model_state.specs.Keys.{IdBytes}
 use Rattle.model_state.specs.State.{State, is_live}
 use Rattle.model_state.specs.Steps.{class_has}
-use Rattle.edit_laws.specs.declared.fault.EditFault.{EditFault}
-use Rattle.edit_laws.specs.declared.fault.EditFault.TheVariants.{NoFeature}
+use Rattle.edit_steps.specs.declared.fault.EditFault.{EditFault}
+use Rattle.edit_steps.specs.declared.fault.EditFault.TheVariants.{NoFeature}
 use Rattle.edits.specs.Edits.{class_at, feature_at}
 
 -- a word that names a live element

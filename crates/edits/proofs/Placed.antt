@@ -12,15 +12,15 @@ use Rattle.model_state.specs.State.{State, is_live}
 use Rattle.model_state.specs.Steps.{fold, class_has}
 use Rattle.model_state.specs.Typing.{kind_of, is_concrete, is_containment}
 use Rattle.model_state.specs.Good.{Good, Sound}
-use Rattle.edit_laws.specs.declared.fault.EditFault.{EditFault}
-use Rattle.containment.specs.declared.fault.MoveFault.{MoveFault}
-use Rattle.containment.specs.Refusals.{IsPlace, create_refusal, create_tests, move_refusal, place_of}
-use Rattle.containment.specs.Moves.{move_after, move_made}
-use Rattle.containment.proofs.Containers.{live_place, parent_live}
-use Rattle.containment.proofs.Refused as moves
+use Rattle.edit_steps.specs.declared.fault.EditFault.{EditFault}
+use Rattle.edit_steps.specs.declared.move_fault.MoveFault.{MoveFault}
+use Rattle.edit_steps.specs.MoveRefusals.{IsPlace, create_refusal, create_tests, move_refusal, place_of}
+use Rattle.edit_steps.specs.Moves.{move_after, move_made}
+use Rattle.edit_steps.proofs.Containers.{live_place, parent_live}
+use Rattle.edit_steps.proofs.MoveRefused as moves
 use Rattle.edits.specs.declared.edit.Destination.{Destination}
 use Rattle.edits.specs.declared.edit.Destination.TheVariants.{Root, Inside}
-use Rattle.containment.specs.Containers.{containers_of}
+use Rattle.edit_steps.specs.Containers.{containers_of}
 use Rattle.edits.specs.Edits.{Effect, Creates, Moves, Deletes, class_at, feature_at, place_inside, place_at, unless_full, new_effect, create_in}
 use Rattle.edits.specs.Edits.{create_effect, move_in, move_effect, delete_effect}
 use Rattle.edits.proofs.Allowed.{Allowed, MayMove, passed, missed, allowed_as}

@@ -11,7 +11,7 @@ use Rattle.emfjson_io.specs.Values.{value_of}
 use Rattle.emfjson_io.proofs.Fits.{read_fits}
 use Rattle.edits.specs.declared.edit.Edit.{Edit}
 use Rattle.edits.specs.declared.edit.Recorded.{Recorded}
-use Rattle.edit_laws.specs.declared.fault.EditFault.{EditFault}
+use Rattle.edit_steps.specs.declared.fault.EditFault.{EditFault}
 use Rattle.edits.specs.Edits.{Effect, effect_of, made, after, operation_kind, operation_of, recording, recording_of, recorded_of}
 use Rattle.edits.proofs.Taken.{edits_meet, edits_keep_good}
 use Rattle.edits.proofs.Unchanged.{edits_idle}

@@ -2,12 +2,12 @@
 use Rattle.ecore_meta.specs.Meta.{Meta}
 use Rattle.model_state.specs.State.{State}
 use Rattle.model_state.specs.Good.{Good, Sound}
-use Rattle.edit_laws.proofs.PlaceStanding.{create_stands}
-use Rattle.edit_laws.proofs.RowStanding.{link_stands, reorder_stands, set_ref_stands}
-use Rattle.containment.specs.Containers.{containers_of}
-use Rattle.containment.proofs.Containers.{parent_live}
-use Rattle.containment.proofs.Keeps.{delete_keeps}
-use Rattle.containment.proofs.Refused.{moved_stands_there}
+use Rattle.edit_steps.proofs.PlaceStanding.{create_stands}
+use Rattle.edit_steps.proofs.RowStanding.{link_stands, reorder_stands, set_ref_stands}
+use Rattle.edit_steps.specs.Containers.{containers_of}
+use Rattle.edit_steps.proofs.Containers.{parent_live}
+use Rattle.edit_steps.proofs.Keeps.{delete_keeps}
+use Rattle.edit_steps.proofs.MoveRefused.{moved_stands_there}
 use Rattle.edits.specs.Edits.{Effect, Creates, Moves, Deletes, Puts, Clears, Inserts, Removes, Shifts, Refers, Forgets, Links, Unlinks, Reorders, after}
 use Rattle.edits.specs.Laws.{EditsStand}
 use Rattle.edits.specs.Standing.{StandsAsAsked}

@@ -22,19 +22,19 @@ use Rattle.model_state.specs.State.{State, is_live, place_eq}
 use Rattle.model_state.specs.Good.{Good, Sound}
 use Rattle.model_state.proofs.Orders.{id_order}
 use Rattle.model_state.proofs.StepTests.{place_equality}
-use Rattle.edit_laws.specs.Spot.{spot}
-use Rattle.edit_laws.specs.Places.{Ranks, MayMoveWithin, ranked_places, rerank_places, move_within_after, move_within_made, move_to_after, move_to_made}
-use Rattle.edit_laws.specs.References.{without_entry, stands_at}
-use Rattle.edit_laws.proofs.Creates.{Stand, names_differ}
-use Rattle.edit_laws.proofs.LinkEdits.{none_without}
-use Rattle.edit_laws.proofs.MoveEdits.{ranked_missing, others_stand}
-use Rattle.containment.specs.Refusals.{place_of, move_tests, within_tests, arrival_tests}
-use Rattle.containment.specs.Subtree.{is_among, subtree_of}
-use Rattle.containment.specs.Deletes.{delete_after}
-use Rattle.containment.specs.Moves.{move_after, move_made}
-use Rattle.containment.proofs.Containers.{live_place}
-use Rattle.containment.proofs.Refused.{AllPass, passed}
-use Rattle.containment.specs.Containers.{containers_of}
+use Rattle.edit_steps.specs.Spot.{spot}
+use Rattle.edit_steps.specs.Places.{Ranks, MayMoveWithin, ranked_places, rerank_places, move_within_after, move_within_made, move_to_after, move_to_made}
+use Rattle.edit_steps.specs.References.{without_entry, stands_at}
+use Rattle.edit_steps.proofs.Creates.{Stand, names_differ}
+use Rattle.edit_steps.proofs.LinkEdits.{none_without}
+use Rattle.edit_steps.proofs.MoveEdits.{ranked_missing, others_stand}
+use Rattle.edit_steps.specs.MoveRefusals.{place_of, move_tests, within_tests, arrival_tests}
+use Rattle.edit_steps.specs.Subtree.{is_among, subtree_of}
+use Rattle.edit_steps.specs.Deletes.{delete_after}
+use Rattle.edit_steps.specs.Moves.{move_after, move_made}
+use Rattle.edit_steps.proofs.Containers.{live_place}
+use Rattle.edit_steps.proofs.MoveRefused.{AllPass, passed}
+use Rattle.edit_steps.specs.Containers.{containers_of}
 use Rattle.edits.proofs.Allowed.{MayMove}
 
 left_or : (b c : Bool) → b || c ≡ true → b ≡ false → c ≡ true

@@ -20,27 +20,27 @@ use Rattle.model_state.specs.Typing.{value_eq, kind_of, upper_of, is_attr, is_ma
 use Rattle.model_state.specs.Good.{Good, Sound}
 use Rattle.edits.specs.declared.edit.Edit.{Edit}
 use Rattle.edits.specs.declared.edit.Edit.TheVariants.{Create, Delete, Set, Unset, Add, Remove, Shift, Link, Unlink, Reorder, Move}
-use Rattle.edit_laws.specs.declared.fault.EditFault.{EditFault}
-use Rattle.edit_laws.specs.References.{holds_one}
-use Rattle.edit_laws.specs.Refusals.{set_ref_refusal, link_index, link_refusal, unlink_refusal, reorder_refusal}
-use Rattle.edit_laws.specs.Attributes.{taken}
+use Rattle.edit_steps.specs.declared.fault.EditFault.{EditFault}
+use Rattle.edit_steps.specs.References.{holds_one}
+use Rattle.edit_steps.specs.Refusals.{set_ref_refusal, link_index, link_refusal, unlink_refusal, reorder_refusal}
+use Rattle.edit_steps.specs.Attributes.{taken}
 use Rattle.edits.specs.FreshIds.{id_or_fresh}
 use Rattle.edits.specs.Edits.{Reading, Effect, Creates, Moves, Deletes, Puts, Clears, Inserts, Removes, Shifts, Refers, Forgets, Links, Unlinks}
 use Rattle.edits.specs.Edits.{Reorders, class_at, feature_at, put_effect, unless_refused, target_in, refer_effect, set_effect, unset_effect}
 use Rattle.edits.specs.Edits.{insert_effect, add_effect, remove_effect, shift_effect, is_listed, link_effect, unlink_effect, reorder_effect}
 use Rattle.edits.specs.Edits.{of_feature, effect_of, made, after}
-use Rattle.containment.proofs.DeleteLaws.{delete_leads}
+use Rattle.edit_steps.proofs.DeleteLaws.{delete_leads}
 use Rattle.edits.proofs.Allowed.{Allowed, passed, missed, allowed_as}
 use Rattle.edits.proofs.Names.{feature_held}
 use Rattle.edits.proofs.Placed.{create_allowed, move_allowed, move_meets, delete_allowed}
 use Rattle.edits.specs.Laws.{IsTyped, EditsMeet, EditsKeepGood}
 use Rattle.model_laws.proofs.Runs.{steps_keep_good}
-use Rattle.edit_laws.proofs.Refused.{may_set, may_link, link_within, may_unlink, may_reorder, reorder_within}
-use Rattle.edit_laws.proofs.Sets.{set_ref_meets}
-use Rattle.edit_laws.proofs.LinkEdits.{link_meets, unlink_meets, unset_meets, reorder_meets}
-use Rattle.edit_laws.proofs.Creates.{create_meets}
-use Rattle.edit_laws.proofs.AttributeEdits.{put_meets, taken_fits, taken_differs}
-use Rattle.edit_laws.proofs.ManyEdits.{insert_meets, remove_meets, shift_meets, clear_meets}
+use Rattle.edit_steps.proofs.Refused.{may_set, may_link, link_within, may_unlink, may_reorder, reorder_within}
+use Rattle.edit_steps.proofs.Sets.{set_ref_meets}
+use Rattle.edit_steps.proofs.LinkEdits.{link_meets, unlink_meets, unset_meets, reorder_meets}
+use Rattle.edit_steps.proofs.Creates.{create_meets}
+use Rattle.edit_steps.proofs.AttributeEdits.{put_meets, taken_fits, taken_differs}
+use Rattle.edit_steps.proofs.ManyEdits.{insert_meets, remove_meets, shift_meets, clear_meets}
 use Rattle.model_state.specs.Ranks.{most_entries}
 
 not_refused : (o : Option EditFault) (x y : Effect) → unless_refused o x ≡ Ok y → (o ≡ None) × ◌≡◌ {A = Result Effect EditFault} (Ok x) (Ok y)

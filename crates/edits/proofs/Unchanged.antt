@@ -20,16 +20,16 @@ use Rattle.model_state.specs.Good.{Good, Sound}
 use Rattle.model_state.specs.Typing.{value_eq}
 use Rattle.model_state.proofs.Orders.{id_order, attr_order}
 use Rattle.model_laws.proofs.Runs.{same_state}
-use Rattle.edit_laws.specs.Attributes.{single_value}
-use Rattle.edit_laws.specs.Rows.{Rows}
-use Rattle.edit_laws.specs.References.{set_ref_after, link_after, unlink_after, unset_after, reorder_after}
-use Rattle.edit_laws.specs.ManyValues.{with_values, dels}
+use Rattle.edit_steps.specs.Attributes.{single_value}
+use Rattle.edit_steps.specs.Rows.{Rows}
+use Rattle.edit_steps.specs.References.{set_ref_after, link_after, unlink_after, unset_after, reorder_after}
+use Rattle.edit_steps.specs.ManyValues.{with_values, dels}
 use Rattle.edits.specs.Edits.{Effect, Creates, Moves, Deletes, Puts, Clears, Inserts, Removes, Shifts, Refers, Forgets, Links, Unlinks, Reorders, made, after}
 use Rattle.edits.specs.Laws.{EditsIdle}
-use Rattle.edit_laws.proofs.Idle.{set_ref_still, link_still, unlink_still, unset_still, reorder_still}
-use Rattle.edit_laws.proofs.ManyEdits.{value_test, values_test, values_now}
-use Rattle.containment.specs.Refusals.{place_of}
-use Rattle.containment.specs.Containers.{containers_of}
+use Rattle.edit_steps.proofs.Idle.{set_ref_still, link_still, unlink_still, unset_still, reorder_still}
+use Rattle.edit_steps.proofs.ManyEdits.{value_test, values_test, values_now}
+use Rattle.edit_steps.specs.MoveRefusals.{place_of}
+use Rattle.edit_steps.specs.Containers.{containers_of}
 use Rattle.edits.proofs.Allowed.{Allowed}
 use Rattle.edits.proofs.Stays.{move_still, deleted}
 use Rattle.edits.proofs.Taken.{allowed, made_leads}

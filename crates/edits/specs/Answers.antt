@@ -3,8 +3,8 @@ use Rattle.std.specs.Prelude.{◌≡◌, ◌⊎◌, List, [], Option, None, Some
 use Rattle.model_state.specs.declared.operation.Operation.{Operation}
 use Rattle.model_state.specs.declared.step.Step.{Step}
 use Rattle.model_state.specs.Packages.{steps_of}
-use Rattle.edit_laws.specs.declared.fault.EditFault.{EditFault}
-use Rattle.edit_laws.specs.declared.fault.EditFault.TheVariants.{Memory}
+use Rattle.edit_steps.specs.declared.fault.EditFault.{EditFault}
+use Rattle.edit_steps.specs.declared.fault.EditFault.TheVariants.{Memory}
 
 -- the answer is the one that is due, or out of memory
 abbrev pub Answers : {A : Type 0} → Result A EditFault → Result A EditFault → Type 0

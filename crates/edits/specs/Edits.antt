@@ -27,22 +27,22 @@ use Rattle.edits.specs.declared.edit.Edit.TheVariants.{Create, Delete, Set, Unse
 use Rattle.edits.specs.declared.edit.Destination.{Destination}
 use Rattle.edits.specs.declared.edit.Destination.TheVariants.{Root, Inside}
 use Rattle.edits.specs.declared.edit.Recorded.{Recorded}
-use Rattle.edit_laws.specs.declared.fault.EditFault.{EditFault}
-use Rattle.edit_laws.specs.declared.fault.EditFault.TheVariants.{NoElement, IdInUse, BadId, NoClass, Abstract, NoFeature, WrongKind, BadValue, Bound}
-use Rattle.edit_laws.specs.declared.fault.EditFault.TheVariants.{AlreadyThere, NoEntry}
-use Rattle.edit_laws.specs.References.{holds_one, set_ref_after, set_ref_made, link_after, link_made, unlink_after, unlink_made, unset_after}
-use Rattle.edit_laws.specs.References.{unset_made, reorder_after, reorder_made}
-use Rattle.edit_laws.specs.Refusals.{set_ref_refusal, link_index, link_refusal, unlink_refusal, reorder_refusal}
-use Rattle.edit_laws.specs.Places.{create_after, create_made}
-use Rattle.edit_laws.specs.Attributes.{taken, put_after, put_made}
-use Rattle.edit_laws.specs.ManyValues.{insert_after, insert_made, remove_after, remove_made, shift_after, shift_made, clear_after, clear_made}
-use Rattle.containment.specs.declared.fault.MoveFault.{MoveFault}
-use Rattle.containment.specs.EditFaults.{edit_fault}
-use Rattle.containment.specs.Refusals.{create_refusal, move_refusal, place_of}
-use Rattle.containment.specs.Moves.{move_after, move_made}
-use Rattle.containment.specs.Deletes.{delete_after, delete_made}
+use Rattle.edit_steps.specs.declared.fault.EditFault.{EditFault}
+use Rattle.edit_steps.specs.declared.fault.EditFault.TheVariants.{NoElement, IdInUse, BadId, NoClass, Abstract, NoFeature, WrongKind, BadValue, Bound}
+use Rattle.edit_steps.specs.declared.fault.EditFault.TheVariants.{AlreadyThere, NoEntry}
+use Rattle.edit_steps.specs.References.{holds_one, set_ref_after, set_ref_made, link_after, link_made, unlink_after, unlink_made, unset_after}
+use Rattle.edit_steps.specs.References.{unset_made, reorder_after, reorder_made}
+use Rattle.edit_steps.specs.Refusals.{set_ref_refusal, link_index, link_refusal, unlink_refusal, reorder_refusal}
+use Rattle.edit_steps.specs.Places.{create_after, create_made}
+use Rattle.edit_steps.specs.Attributes.{taken, put_after, put_made}
+use Rattle.edit_steps.specs.ManyValues.{insert_after, insert_made, remove_after, remove_made, shift_after, shift_made, clear_after, clear_made}
+use Rattle.edit_steps.specs.declared.move_fault.MoveFault.{MoveFault}
+use Rattle.edit_steps.specs.EditFaults.{edit_fault}
+use Rattle.edit_steps.specs.MoveRefusals.{create_refusal, move_refusal, place_of}
+use Rattle.edit_steps.specs.Moves.{move_after, move_made}
+use Rattle.edit_steps.specs.Deletes.{delete_after, delete_made}
 use Rattle.edits.specs.FreshIds.{id_or_fresh}
-use Rattle.containment.specs.Containers.{containers_of}
+use Rattle.edit_steps.specs.Containers.{containers_of}
 use Rattle.model_state.specs.Ranks.{most_entries}
 use Rattle.model_state.specs.Listing.{values_at}
 

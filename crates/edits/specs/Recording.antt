@@ -5,7 +5,7 @@ use Rattle.model_state.specs.State.{State}
 use Rattle.emfjson_io.specs.Values.{value_of}
 use Rattle.edits.specs.declared.edit.Edit.{Edit}
 use Rattle.edits.specs.declared.edit.Recorded.{Recorded}
-use Rattle.edit_laws.specs.declared.fault.EditFault.{EditFault}
+use Rattle.edit_steps.specs.declared.fault.EditFault.{EditFault}
 use Rattle.edits.specs.Edits.{recorded_of}
 
 -- what is recorded of an edit in a workspace of that number, or the first of its refusals

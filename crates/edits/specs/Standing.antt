@@ -6,10 +6,10 @@ use Rattle.model_state.specs.Keys.{IdBytes, RowKey}
 use Rattle.model_state.specs.Listing.{children, targets}
 use Rattle.model_state.specs.State.{State}
 use Rattle.model_state.specs.Typing.{opposite_of}
-use Rattle.edit_laws.specs.References.{without_entry}
-use Rattle.edit_laws.specs.Rows.{is_row_or_mirror}
-use Rattle.edit_laws.specs.Standing.{StandsAt, Joined, Placed, is_displaced, is_list}
-use Rattle.containment.specs.Stays.{Keeps}
+use Rattle.edit_steps.specs.References.{without_entry}
+use Rattle.edit_steps.specs.Rows.{is_row_or_mirror}
+use Rattle.edit_steps.specs.Standing.{StandsAt, Joined, Placed, is_displaced, is_list}
+use Rattle.edit_steps.specs.Stays.{Keeps}
 use Rattle.edits.specs.Edits.{Effect, Creates, Moves, Deletes, Refers, Links, Reorders}
 
 -- A new element stands last, one that moves at its index of the others, None for their end. What stays of a deletion is as it

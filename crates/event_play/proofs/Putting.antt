@@ -10,7 +10,7 @@ use Rattle.history_tree.proofs.Heads.{head_within}
 use Rattle.model_state.specs.Packages.{fold_package}
 use Rattle.merge_laws.specs.Choices.{are_choices}
 use Rattle.merge_laws.specs.Plans.{incoming}
-use Rattle.tidy_laws.specs.Tidy.{tidy}
+use Rattle.merge_laws.specs.Tidy.{tidy}
 use Rattle.op_form.specs.declared.event.Event.{Event}
 use Rattle.op_form.specs.declared.event.Event.TheVariants.{Tidy, Update, Merge}
 use Rattle.op_form.specs.Formed.{IsEvent}

@@ -9,9 +9,9 @@ use Rattle.model_state.specs.declared.step.Step.TheVariants.{New, RerankPlace}
 use Rattle.model_state.specs.declared.step.Place.TheVariants.{Root}
 use Rattle.model_state.specs.Keys.{IdBytes}
 use Rattle.model_state.specs.Ranks.{rank_between, most_entries, rank_gap}
-use Rattle.edit_laws.specs.Places.{rerank_places}
-use Rattle.edit_laws.specs.Spot.{Spot, rank_for, ranks_of, evened, end_spot, spot_by}
-use Rattle.opposites.proofs.SpotLaws.{even_for}
+use Rattle.edit_steps.specs.Places.{rerank_places}
+use Rattle.edit_steps.specs.Spot.{Spot, rank_for, ranks_of, evened, end_spot, spot_by}
+use Rattle.edit_steps.proofs.SpotLaws.{even_for}
 use Rattle.import_laws.specs.Roots.{has_end, root_after, root_made, with_ranks}
 
 pub same_entries : (xs : List Entry) → with_ranks xs (ranks_of xs) ≡ xs

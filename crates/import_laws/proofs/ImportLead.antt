@@ -15,8 +15,8 @@ use Rattle.model_state.specs.State.{State, is_live}
 use Rattle.model_state.specs.Steps.{fold}
 use Rattle.model_laws.proofs.Births.{dead_attr, dead_from}
 use Rattle.model_laws.proofs.Runs.{fold_append, steps_keep_good}
-use Rattle.edit_laws.specs.declared.fault.EditFault.{EditFault}
-use Rattle.edit_laws.specs.declared.fault.EditFault.TheVariants.{IdInUse}
+use Rattle.edit_steps.specs.declared.fault.EditFault.{EditFault}
+use Rattle.edit_steps.specs.declared.fault.EditFault.TheVariants.{IdInUse}
 use Rattle.model_documents.specs.declared.doc.DocRow.{DocRow}
 use Rattle.model_documents.specs.Fits.{DocumentFits}
 use Rattle.import_laws.specs.After.{Kinds, attrs_from, import_after, kinds_from, places_from, ranks_from}

@@ -19,9 +19,9 @@ use Rattle.model_state.specs.Steps.{fold, may_link, mirror_room}
 use Rattle.model_state.specs.Typing.{opposite_of, row_upper}
 use Rattle.model_state.proofs.Orders.{row_order}
 use Rattle.model_laws.proofs.Runs.{fold_more}
-use Rattle.edit_laws.specs.Rows.{Rows, link_step, set_pair}
-use Rattle.edit_laws.proofs.Clears.{good_after}
-use Rattle.edit_laws.proofs.Pairs.{Takes, link_takes}
+use Rattle.edit_steps.specs.Rows.{Rows, link_step, set_pair}
+use Rattle.edit_steps.proofs.Clears.{good_after}
+use Rattle.edit_steps.proofs.Pairs.{Takes, link_takes}
 use Rattle.model_documents.specs.declared.doc.DocRow.{DocRow}
 use Rattle.import_laws.specs.Laws.{ids_differ}
 use Rattle.import_laws.specs.Links.{is_made, link_to, mirror_of}

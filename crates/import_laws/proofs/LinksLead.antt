@@ -19,8 +19,8 @@ use Rattle.model_state.specs.State.{State}
 use Rattle.model_state.specs.Steps.{fold, may_link}
 use Rattle.model_state.specs.Typing.{links, opposite_of, row_upper}
 use Rattle.model_state.proofs.Orders.{row_order}
-use Rattle.edit_laws.specs.Rows.{Rows}
-use Rattle.edit_laws.proofs.Joins.{none_counted_at}
+use Rattle.edit_steps.specs.Rows.{Rows}
+use Rattle.edit_steps.proofs.Joins.{none_counted_at}
 use Rattle.model_documents.specs.declared.doc.DocRefs.{DocRefs}
 use Rattle.model_documents.specs.declared.doc.DocRow.{DocRow}
 use Rattle.model_documents.specs.Fits as fits

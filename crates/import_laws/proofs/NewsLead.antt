@@ -26,10 +26,10 @@ use Rattle.model_state.specs.Typing.{child_upper, contains_to, kind_of}
 use Rattle.model_state.proofs.Orders.{id_order}
 use Rattle.model_laws.proofs.Births.{dead_inner, dead_place}
 use Rattle.model_laws.proofs.Runs.{fold_append}
-use Rattle.edit_laws.specs.declared.fault.EditFault.{EditFault}
-use Rattle.edit_laws.specs.declared.fault.EditFault.TheVariants.{Bound}
-use Rattle.edit_laws.specs.Places.{Ranks}
-use Rattle.edit_laws.proofs.Creates.{Stand, children_stand, names_differ}
+use Rattle.edit_steps.specs.declared.fault.EditFault.{EditFault}
+use Rattle.edit_steps.specs.declared.fault.EditFault.TheVariants.{Bound}
+use Rattle.edit_steps.specs.Places.{Ranks}
+use Rattle.edit_steps.proofs.Creates.{Stand, children_stand, names_differ}
 use Rattle.model_documents.specs.declared.doc.DocParent.{DocParent}
 use Rattle.model_documents.specs.declared.doc.DocRow.{DocRow}
 use Rattle.model_documents.specs.Fits.{DocumentFits, StandsFit, standing}

@@ -14,7 +14,7 @@ use Rattle.finite_maps.proofs.MapLaws.{by_key, get-set_other, get-set_same}
 use Rattle.model_state.specs.Keys.{IdBytes, RowKey, row_cmp}
 use Rattle.model_state.specs.Listing.{is_of}
 use Rattle.model_state.proofs.Orders.{row_order}
-use Rattle.edit_laws.specs.Rows.{Rows}
+use Rattle.edit_steps.specs.Rows.{Rows}
 use Rattle.import_laws.specs.Laws.{ids_differ}
 use Rattle.import_laws.specs.Names.{name_at}
 use Rattle.import_laws.specs.News.{rank_of}

@@ -22,10 +22,10 @@ use Rattle.model_state.specs.Typing.{is_concrete}
 use Rattle.model_state.proofs.Orders.{id_order}
 use Rattle.model_state.proofs.StepTests.{pass}
 use Rattle.model_laws.proofs.Runs.{fold_append, fold_more, undoes}
-use Rattle.edit_laws.specs.Places.{Ranks, ranked_places, rerank_places}
-use Rattle.edit_laws.specs.Spot.{end_spot}
-use Rattle.edit_laws.proofs.Creates.{Stand, names_differ, rerank_leads}
-use Rattle.edit_laws.proofs.Pairs.{some_of}
+use Rattle.edit_steps.specs.Places.{Ranks, ranked_places, rerank_places}
+use Rattle.edit_steps.specs.Spot.{end_spot}
+use Rattle.edit_steps.proofs.Creates.{Stand, names_differ, rerank_leads}
+use Rattle.edit_steps.proofs.Pairs.{some_of}
 use Rattle.model_laws.proofs.Inserts.{or_none}
 use Rattle.import_laws.specs.After.{ranks_after}
 use Rattle.import_laws.specs.News as news

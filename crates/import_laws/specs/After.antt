@@ -9,9 +9,9 @@ use Rattle.model_state.specs.declared.step.Place.TheVariants.{Root, Inside}
 use Rattle.model_state.specs.Keys.{IdBytes, id_cmp, attr_cmp}
 use Rattle.model_state.specs.Listing.{children}
 use Rattle.model_state.specs.State.{State}
-use Rattle.edit_laws.specs.Places.{Ranks, ranked_places}
-use Rattle.edit_laws.specs.Rows.{Rows}
-use Rattle.edit_laws.specs.Spot.{end_spot}
+use Rattle.edit_steps.specs.Places.{Ranks, ranked_places}
+use Rattle.edit_steps.specs.Rows.{Rows}
+use Rattle.edit_steps.specs.Spot.{end_spot}
 use Rattle.model_documents.specs.declared.doc.DocAttr.{DocAttr}
 use Rattle.model_documents.specs.declared.doc.DocRefs.{DocRefs}
 use Rattle.model_documents.specs.declared.doc.DocRow.{DocRow}

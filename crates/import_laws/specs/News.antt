@@ -6,8 +6,8 @@ use Rattle.model_state.specs.declared.step.Place.TheVariants.{Root, Inside}
 use Rattle.model_state.specs.declared.step.Step.{Step}
 use Rattle.model_state.specs.declared.step.Step.TheVariants.{New}
 use Rattle.model_state.specs.Keys.{IdBytes}
-use Rattle.edit_laws.specs.declared.fault.EditFault.{EditFault}
-use Rattle.edit_laws.specs.declared.fault.EditFault.TheVariants.{Bound}
+use Rattle.edit_steps.specs.declared.fault.EditFault.{EditFault}
+use Rattle.edit_steps.specs.declared.fault.EditFault.TheVariants.{Bound}
 use Rattle.model_documents.specs.Fits.{standing}
 use Rattle.model_documents.specs.declared.doc.DocParent.{DocParent}
 use Rattle.model_documents.specs.declared.doc.DocRow.{DocRow}

@@ -5,8 +5,8 @@ use Rattle.model_state.specs.declared.step.Place.TheVariants.{Root}
 use Rattle.model_state.specs.declared.step.Step.{Step}
 use Rattle.model_state.specs.declared.step.Step.TheVariants.{New}
 use Rattle.model_state.specs.Keys.{IdBytes}
-use Rattle.edit_laws.specs.Places.{rerank_places}
-use Rattle.edit_laws.specs.Spot.{end_spot}
+use Rattle.edit_steps.specs.Places.{rerank_places}
+use Rattle.edit_steps.specs.Spot.{end_spot}
 
 -- entries with other ranks
 abbrev pub with_ranks : List Entry → List ℕ → List Entry

@@ -7,7 +7,7 @@ use Rattle.model_laws.proofs.Exchange.{or_cases}
 use Rattle.model_state.specs.declared.operation.Operation.{Operation}
 use Rattle.footprint.specs.Interference.{interferes, NoPair}
 use Rattle.footprint.specs.declared.bucket.Bucket.{Bucket}
-use Rattle.bucket_laws.specs.Parts.{is_in, SameTheirs, SameMine, shares, Parts}
+use Rattle.merge_laws.specs.Parts.{is_in, SameTheirs, SameMine, shares, Parts}
 use Rattle.merge_laws.specs.declared.side.Side.{Side}
 use Rattle.merge_laws.specs.declared.side.Side.TheVariants.{Mine, Theirs}
 use Rattle.merge_laws.specs.Merge.{drops_theirs, drops_mine, dropped, kept}

@@ -9,13 +9,13 @@ use Rattle.model_state.specs.Packages.{fold_package, rev_package}
 use Rattle.footprint.proofs.Runs.{Leads, one_end, cut, join, package_undone, packages_keep, packages_exchange, packages_side_by_side}
 use Rattle.footprint.specs.declared.bucket.Bucket.{Bucket}
 use Rattle.footprint.specs.Buckets.{buckets}
-use Rattle.bucket_laws.specs.Parts.{Parts}
-use Rattle.bucket_laws.proofs.Rows.{buckets_are_parts}
+use Rattle.merge_laws.specs.Parts.{Parts}
+use Rattle.merge_laws.proofs.Rows.{buckets_are_parts}
 use Rattle.merge_laws.specs.declared.side.Side.{Side}
 use Rattle.merge_laws.specs.Merge.{drops_theirs, drops_mine, dropped, kept, merged, update_list, merge_list}
 use Rattle.merge_laws.specs.Laws.{UpdateGivesMerged, MergeGivesMerged, RevertTakesOut, MineLeads, MergeLeadsToMerged}
-use Rattle.tidy_laws.specs.Tidy.{tidy}
-use Rattle.tidy_laws.proofs.Whole.{tidy_keeps_effect}
+use Rattle.merge_laws.specs.Tidy.{tidy}
+use Rattle.merge_laws.proofs.Whole.{tidy_keeps_effect}
 use Rattle.merge_laws.proofs.Gather.{gather}
 use Rattle.merge_laws.proofs.Choices.{theirs_apart, mine_apart, kept_apart}
 

@@ -6,7 +6,7 @@ use Rattle.model_state.specs.Good.{Good, Sound}
 use Rattle.model_state.specs.declared.operation.Operation.{Operation}
 use Rattle.model_state.specs.Packages.{fold_package, rev_package}
 use Rattle.footprint.specs.Interference.{NoPair}
-use Rattle.tidy_laws.specs.Tidy.{tidy}
+use Rattle.merge_laws.specs.Tidy.{tidy}
 use Rattle.footprint.specs.Buckets.{buckets}
 use Rattle.merge_laws.specs.declared.side.Side.{Side}
 use Rattle.merge_laws.specs.Merge.{merged, update_list, merge_list}

@@ -1,8 +1,16 @@
-//! What an update, a merge and a revert lead to, for all choices.
+//! What it means to tidy a package, to group what interferes in two packages, and to merge them by choices; and what an update, a
+//! merge and a revert lead to, for all choices. Equal steps, and the one step that does what two do, are the ground of tidying.
+//! Buckets are the classes of the least equivalence that holds all interfering pairs, where they have operations of both packages.
 #![tactic(auto)]
 
+mod bucket_laws;
 mod laws;
+mod pair_laws;
 mod side;
+mod tidy_laws;
 
+pub use bucket_laws::law_of_buckets;
 pub use laws::{law_of_merge, law_of_revert};
+pub use pair_laws::law_of_joins;
 pub use side::Side;
+pub use tidy_laws::law_of_tidy;

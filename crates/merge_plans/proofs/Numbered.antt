@@ -8,7 +8,7 @@ use Rattle.ecore_meta.specs.Meta.{Meta}
 use Rattle.model_state.specs.declared.operation.Operation.{Operation}
 use Rattle.footprint.specs.declared.bucket.Bucket.{Bucket}
 use Rattle.footprint.specs.Buckets.{buckets, labels, mixed, places, rows}
-use Rattle.bucket_laws.proofs.Exact.{labels_length}
+use Rattle.merge_laws.proofs.Exact.{labels_length}
 
 -- numbers below a bound
 abbrev pub AreBelow : ℕ → List ℕ → Type 0

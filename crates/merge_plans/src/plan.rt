@@ -1,7 +1,7 @@
 //! The plan of an update and of a merge: two packages that begin at one model, and their buckets.
 ghost use Rattle.std.specs.Prelude.{ℕ, List, ◌≡◌, ◌<◌, ◌^◌, ◌-◌, All, IfOk, length, map, true};
 ghost use Rattle.footprint.specs.Buckets.{buckets as buckets_of};
-ghost use Rattle.tidy_laws.specs.Tidy.{tidy as tidy_of};
+ghost use Rattle.merge_laws.specs.Tidy.{tidy as tidy_of};
 ghost use Rattle.merge_laws.specs.Merge.{merge_list, update_list};
 ghost use Rattle.history_tree.specs.MergeBase.{merge_base};
 ghost use Rattle.merge_laws.specs.Choices.{are_choices, side_of};

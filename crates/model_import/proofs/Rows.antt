@@ -5,7 +5,7 @@ use Rattle.std.specs.Prelude.{Err, if◌then◌else◌}
 use Rattle.model_state.specs.declared.entry.Entry.{Entry}
 use Rattle.model_state.specs.declared.step.Step.{Step}
 use Rattle.model_state.specs.Keys.{IdBytes}
-use Rattle.edit_laws.specs.declared.fault.EditFault.TheVariants.{Bound}
+use Rattle.edit_steps.specs.declared.fault.EditFault.TheVariants.{Bound}
 use Rattle.model_documents.specs.declared.doc.DocRow.{DocRow}
 use Rattle.import_laws.specs.Names.{name_at}
 use Rattle.model_documents.specs.Fits.{standing}

@@ -9,7 +9,7 @@ use crate::names::{any_in_use, names};
 use crate::news::news;
 use crate::values::add_values;
 use ecore_meta::Metamodel;
-use edit_laws::EditFault;
+use edit_steps::EditFault;
 use model_documents::{Doc, DocRow};
 use model_state::{Id, Look, Operation, Step};
 use std::alloc::{AllocError, Global};

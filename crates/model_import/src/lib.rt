@@ -11,5 +11,5 @@ mod news;
 mod roots;
 mod values;
 
-pub use edit_laws::EditFault;
+pub use edit_steps::EditFault;
 pub use import::import_doc;

@@ -6,9 +6,9 @@ use crate::indexes::Indexes;
 use crate::names::name_at;
 use crate::news::rank_of;
 use ecore_meta::Metamodel;
+use edit_steps::link_step;
 use model_documents::{DocRefs, DocRow};
 use model_state::{Id, Step, opposite_of};
-use opposites::link_step;
 use std::alloc::{AllocError, Global};
 use texts::List;
 

@@ -1,6 +1,6 @@
 //! The creations of an import, a container before what it contains.
 ghost use Rattle.std.specs.Prelude.{◌≡◌, ◌<◌, ◌⊎◌, ◌++◌, ◌∷◌, [], false, true, IfErr, IfOk, OnOk, length};
-ghost use Rattle.edit_laws.specs.declared.fault.EditFault.TheVariants.{Bound, Memory};
+ghost use Rattle.edit_steps.specs.declared.fault.EditFault.TheVariants.{Bound, Memory};
 ghost use Rattle.model_state.specs.Listing.{children};
 ghost use Rattle.model_state.specs.declared.step.Place.TheVariants.{Root, Inside};
 ghost use Rattle.model_state.specs.declared.step.Step.TheVariants.{New};
@@ -12,7 +12,7 @@ ghost use Rattle.import_laws.specs.News.{element_made, has_room, news_made, plac
 use crate::counts::{count_up, counted};
 use crate::names::name_at;
 use crate::roots::add_root;
-use edit_laws::EditFault;
+use edit_steps::EditFault;
 use model_documents::{DocParent, DocRow};
 use model_state::{Entry, Id, Look, Place, RANK_GAP, Step};
 use std::alloc::{AllocError, Global};

@@ -1,14 +1,14 @@
 //! The roots of an import, last at the root of the model, which is renumbered where no rank is left.
 ghost use Rattle.std.specs.Prelude.{◌≡◌, ◌<◌, ◌⊎◌, ◌++◌, ◌∷◌, ◌+◌, ◌*◌, [], false, true, nat_eq, IfErr, IfOk, OnOk, length};
-ghost use Rattle.edit_laws.specs.Places.{rerank_places};
-ghost use Rattle.edit_laws.specs.Spot.{evened, rank_for, ranks_of};
-ghost use Rattle.edit_laws.specs.declared.fault.EditFault.TheVariants.{Bound, Memory};
+ghost use Rattle.edit_steps.specs.Places.{rerank_places};
+ghost use Rattle.edit_steps.specs.Spot.{evened, rank_for, ranks_of};
+ghost use Rattle.edit_steps.specs.declared.fault.EditFault.TheVariants.{Bound, Memory};
 ghost use Rattle.model_state.specs.declared.step.Place.TheVariants.{Root};
 ghost use Rattle.model_state.specs.declared.step.Step.TheVariants.{New};
 ghost use Rattle.import_laws.specs.Roots.{has_end, root_after, root_made, with_ranks};
 ghost use Rattle.model_state.specs.Ranks.{most_entries, rank_gap};
 
-use edit_laws::EditFault;
+use edit_steps::EditFault;
 use model_state::{Entry, Id, MOST_ENTRIES, Place, RANK_GAP, Step, rank_between};
 use std::alloc::{AllocError, Global};
 use texts::List;

@@ -11,8 +11,8 @@ use Rattle.model_state.specs.declared.operation.Operation.{Operation}
 use Rattle.model_state.specs.declared.operation.Operation.TheVariants.{Simple, Composite}
 use Rattle.model_state.specs.Packages.{steps_all, steps_of}
 use Rattle.history_tree.specs.History.{head}
-use Rattle.tidy_laws.specs.Tidy.{is_tidy}
-use Rattle.tidy_laws.proofs.Equal.{tidy_test_is_exact}
+use Rattle.merge_laws.specs.Tidy.{is_tidy}
+use Rattle.merge_laws.proofs.Equal.{tidy_test_is_exact}
 use Rattle.op_form.specs.declared.event.Event.{Event}
 use Rattle.op_form.specs.declared.event.Event.TheVariants.{Init, Checkout, Edit, Begin, End, Undo, Discard, Tidy, Commit, Branch, Tag, Update, Merge}
 use Rattle.op_form.specs.declared.event.Event.TheVariants.{Drop, Evolve, Upgrade, Signed}

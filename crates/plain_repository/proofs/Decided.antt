@@ -26,7 +26,7 @@ use Rattle.model_state.specs.declared.step.ApplyFault.{ApplyFault}
 use Rattle.model_laws.proofs.Stops.{no_stop_leads}
 use Rattle.edits.specs.declared.edit.Edit as edits
 use Rattle.edits.specs.declared.edit.Recorded.{Recorded}
-use Rattle.edit_laws.specs.declared.fault.EditFault.{EditFault}
+use Rattle.edit_steps.specs.declared.fault.EditFault.{EditFault}
 use Rattle.edits.specs.Recording.{recorded}
 use Rattle.model_documents.specs.declared.doc.DocRow.{DocRow}
 use Rattle.model_documents.specs.declared.fault.ModelFault.{ModelFault}
@@ -44,7 +44,7 @@ use Rattle.history_tree.proofs.Greatest.{of_among}
 use Rattle.footprint.specs.declared.bucket.Bucket.{Bucket}
 use Rattle.merge_laws.specs.Choices.{are_choices}
 use Rattle.merge_laws.specs.Pairs.{have_pair, first_interfering}
-use Rattle.tidy_laws.specs.Tidy.{is_tidy}
+use Rattle.merge_laws.specs.Tidy.{is_tidy}
 use Rattle.op_form.specs.declared.event.Event.{Event}
 use Rattle.op_form.specs.declared.event.Event.TheVariants.{Init, Checkout, Edit, Begin, End, Undo, Discard, Tidy, Commit, Branch, Tag, Update, Merge}
 use Rattle.op_form.specs.declared.event.Event.TheVariants.{Drop, Evolve, Upgrade, Signed}

@@ -38,7 +38,7 @@ use Rattle.plain_repository.specs.Commits.{version_of, committed, with_commit, c
 use Rattle.plain_repository.specs.Edits.{added, with_more, can_follow}
 use Rattle.plain_repository.specs.Composites.{with_open, with_closed}
 use Rattle.plain_repository.specs.Local.{without_last, without_any}
-use Rattle.tidy_laws.specs.Tidy.{is_tidy}
+use Rattle.merge_laws.specs.Tidy.{is_tidy}
 use Rattle.merge_laws.specs.Choices.{are_choices}
 use Rattle.plain_repository.specs.Tidying.{tidied, can_tidy}
 use Rattle.plain_repository.specs.Merging.{update_buckets, updated, can_update, merge_buckets, merged_with, is_other_branch, has_theirs, can_merge}

@@ -25,7 +25,7 @@ use Rattle.history_tree.proofs.Heads.{head_within}
 use Rattle.history_tree.proofs.Since.{operations_split, on_path_there, earlier_on_path}
 use Rattle.footprint.specs.declared.bucket.Bucket.{Bucket}
 use Rattle.footprint.proofs.Runs.{Leads, one_end, cut, join, packages_keep}
-use Rattle.tidy_laws.proofs.Whole.{tidy_keeps_effect}
+use Rattle.merge_laws.proofs.Whole.{tidy_keeps_effect}
 use Rattle.merge_laws.specs.Merge.{merged}
 use Rattle.merge_laws.proofs.Merges.{update_gives_merged, merge_leads_to_merged}
 use Rattle.merge_laws.specs.Choices.{is_choice, are_choices, side_of}

@@ -14,7 +14,7 @@ use Rattle.history_tree.proofs.Greatest.{among_of}
 use Rattle.history_tree.proofs.Heads.{head_within}
 use Rattle.history_tree.proofs.Since.{nothing_after, on_path_low}
 use Rattle.history_tree.proofs.Steady.{path_ends}
-use Rattle.tidy_laws.specs.Tidy.{is_tidy}
+use Rattle.merge_laws.specs.Tidy.{is_tidy}
 use Rattle.merge_laws.specs.Choices.{are_choices}
 use Rattle.merge_laws.specs.Plans.{theirs_of}
 use Rattle.op_form.specs.declared.event.Event.{Event}

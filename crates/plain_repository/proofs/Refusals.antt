@@ -23,10 +23,10 @@ use Rattle.history_tree.specs.Since.{path_after}
 use Rattle.history_tree.specs.States.{package_at, state_of}
 use Rattle.merge_laws.specs.Choices.{are_choices}
 use Rattle.merge_laws.specs.Pairs.{have_pair, first_interfering}
-use Rattle.tidy_laws.specs.Tidy.{is_tidy}
+use Rattle.merge_laws.specs.Tidy.{is_tidy}
 use Rattle.edits.specs.declared.edit.Edit as edits
 use Rattle.edits.specs.declared.edit.Recorded.{Recorded}
-use Rattle.edit_laws.specs.declared.fault.EditFault.{EditFault}
+use Rattle.edit_steps.specs.declared.fault.EditFault.{EditFault}
 use Rattle.edits.specs.Recording.{recorded}
 use Rattle.model_documents.specs.declared.doc.DocRow.{DocRow}
 use Rattle.model_documents.specs.declared.fault.ModelFault.{ModelFault}

@@ -11,11 +11,11 @@ use Rattle.model_state.specs.declared.step.Step.TheVariants.{Put, Ins, Del, Shif
 use Rattle.model_state.specs.declared.operation.OpKind.{OpKind}
 use Rattle.model_state.specs.declared.operation.Operation.{Operation}
 use Rattle.model_state.specs.declared.operation.Operation.TheVariants.{Simple, Composite}
-use Rattle.step_pairs.specs.Joins.{joined}
-use Rattle.tidy_laws.specs.Split.{singles, split}
-use Rattle.tidy_laws.specs.Rules.{takes_back, joined_op, met, OneRule, Settles, done, more}
-use Rattle.tidy_laws.specs.Tidy.{tidy}
-use Rattle.tidy_laws.proofs.Whole.{tidy_follows_rules}
+use Rattle.merge_laws.specs.Joins.{joined}
+use Rattle.merge_laws.specs.Split.{singles, split}
+use Rattle.merge_laws.specs.Rules.{takes_back, joined_op, met, OneRule, Settles, done, more}
+use Rattle.merge_laws.specs.Tidy.{tidy}
+use Rattle.merge_laws.proofs.Whole.{tidy_follows_rules}
 use Rattle.footprint.specs.declared.bucket.Bucket.{Bucket}
 use Rattle.merge_laws.specs.declared.side.Side.{Side}
 use Rattle.merge_laws.specs.Merge.{drops_theirs, drops_mine, dropped, kept, update_list, merge_list}

@@ -7,8 +7,8 @@ use Rattle.model_state.specs.declared.operation.Operation.{Operation}
 use Rattle.history_tree.specs.History.{History}
 use Rattle.edits.specs.declared.edit.Edit as edits
 use Rattle.edits.specs.declared.edit.Recorded.{Recorded}
-use Rattle.edit_laws.specs.declared.fault.EditFault.{EditFault}
-use Rattle.edit_laws.specs.declared.fault.EditFault.TheVariants as faults
+use Rattle.edit_steps.specs.declared.fault.EditFault.{EditFault}
+use Rattle.edit_steps.specs.declared.fault.EditFault.TheVariants as faults
 use Rattle.edits.specs.Recording.{recorded}
 use Rattle.model_documents.specs.declared.doc.DocRow.{DocRow}
 use Rattle.model_documents.specs.declared.fault.ModelFault.{ModelFault}

@@ -7,7 +7,7 @@ use Rattle.history_tree.specs.History.{History, head}
 use Rattle.history_tree.specs.Found.{branch_named}
 use Rattle.footprint.specs.declared.bucket.Bucket.{Bucket}
 use Rattle.footprint.specs.Buckets.{buckets}
-use Rattle.tidy_laws.specs.Tidy.{tidy}
+use Rattle.merge_laws.specs.Tidy.{tidy}
 use Rattle.merge_laws.specs.Merge.{update_list, merge_list}
 use Rattle.merge_laws.specs.Choices.{are_choices, side_of}
 use Rattle.merge_laws.specs.Plans.{incoming, theirs_of, mine_of}

@@ -1,7 +1,7 @@
 -- A workspace is tidied: the command `tidy`, and the event Tidy.
 use Rattle.std.specs.Prelude.{ℕ, [], Bool, false, ◌&&◌, not, Option, Some, None, if◌then◌else◌}
 use Rattle.ecore_meta.specs.Meta.{Meta}
-use Rattle.tidy_laws.specs.Tidy.{tidy, is_tidy}
+use Rattle.merge_laws.specs.Tidy.{tidy, is_tidy}
 use Rattle.op_form.specs.declared.event.Event.TheVariants as events
 use Rattle.script_lang.specs.declared.reply.Refusal.TheVariants as refusals
 use Rattle.plain_repository.specs.State.{State, Workspace, workspace_of, is_open, is_closed}

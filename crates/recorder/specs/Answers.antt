@@ -3,8 +3,8 @@ use Rattle.std.specs.Prelude.{◌≡◌, ◌⊎◌, ℕ, true, false, not, List,
 use Rattle.ecore_meta.specs.declared.meta.Value.{Value}
 use Rattle.model_state.specs.Ident.{is_id}
 use Rattle.model_state.specs.State.{State, is_live}
-use Rattle.edit_laws.specs.declared.fault.EditFault.{EditFault}
-use Rattle.edit_laws.specs.declared.fault.EditFault.TheVariants.{BadId, BadValue, IdInUse, Memory}
+use Rattle.edit_steps.specs.declared.fault.EditFault.{EditFault}
+use Rattle.edit_steps.specs.declared.fault.EditFault.TheVariants.{BadId, BadValue, IdInUse, Memory}
 use Rattle.recorder.specs.declared.feature.Named.{Named}
 
 -- the feature that is due, or out of memory, or why there is none

@@ -7,7 +7,7 @@ ghost use Rattle.model_state.specs.Typing.{kind_of};
 ghost use Rattle.model_state.specs.declared.operation.OpKind.TheVariants.{Attribute};
 ghost use Rattle.model_state.specs.declared.step.Step.TheVariants.{Put};
 ghost use Rattle.emfjson_io.specs.Values.{value_of};
-ghost use Rattle.edit_laws.specs.Attributes.{single_value, put_made, taken};
+ghost use Rattle.edit_steps.specs.Attributes.{single_value, put_made, taken};
 ghost use Rattle.edits.specs.Edits.{operation_of, recording_of, set_effect, unset_effect};
 ghost use Rattle.edits.specs.Answers.{Answers};
 
@@ -15,10 +15,9 @@ use crate::feature::{Named, read};
 use crate::operation::{one_step, operation};
 use crate::{many, reference};
 use ecore_meta::{Kind, Metamodel, Value};
-use edit_laws::EditFault;
+use edit_steps::{EditFault, holds_one};
 use edits::Recorded;
 use model_state::{Id, Look, OpKind, Step, is_attr, is_default, is_many, is_plain, is_same_option};
-use opposites::holds_one;
 use std::alloc::{AllocError, Global};
 use texts::{List, Text};
 

@@ -12,6 +12,6 @@ mod place;
 mod record;
 mod reference;
 
-pub use edit_laws::EditFault;
+pub use edit_steps::EditFault;
 pub use edits::{Destination, Edit, Recorded};
 pub use record::take_edit;

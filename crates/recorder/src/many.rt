@@ -16,9 +16,8 @@ ghost use Rattle.model_state.specs.Listing.{values_at};
 
 use crate::feature::{Named, read};
 use crate::operation::{one_step, operation};
-use containment::dels;
 use ecore_meta::{Kind, Metamodel, Value};
-use edit_laws::EditFault;
+use edit_steps::{EditFault, dels};
 use edits::Recorded;
 use model_state::{
     Id, Look, MOST_ENTRIES, OpKind, Step, contains, is_below_bound, is_many, is_same_value,

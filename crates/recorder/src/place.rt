@@ -2,17 +2,16 @@
 ghost use Rattle.std.specs.Prelude.{◌≡◌, IfOk, IfErr, OnOk, None, true};
 ghost use Rattle.model_state.specs.Good.{Good};
 ghost use Rattle.model_state.specs.State.{is_live};
-ghost use Rattle.containment.specs.Refusals.{IsPlace, IsRefusal, move_refusal, place_of};
-ghost use Rattle.containment.specs.Moves.{move_made};
-ghost use Rattle.containment.specs.Containers.{containers_of};
+ghost use Rattle.edit_steps.specs.MoveRefusals.{IsPlace, IsRefusal, move_refusal, place_of};
+ghost use Rattle.edit_steps.specs.Moves.{move_made};
+ghost use Rattle.edit_steps.specs.Containers.{containers_of};
 ghost use Rattle.edits.specs.Edits.{delete_effect, move_effect, place_at, recording_of};
 ghost use Rattle.edits.specs.Answers.{Answers};
 
 use crate::feature::{Named, live};
 use crate::operation::operation;
-use containment::{MoveFault, delete_steps, is_containment, move_steps};
 use ecore_meta::Metamodel;
-use edit_laws::EditFault;
+use edit_steps::{EditFault, MoveFault, delete_steps, is_containment, move_steps};
 use edits::{Destination, Recorded};
 use model_state::{Id, Look, OpKind, Place, Step};
 use std::alloc::Global;

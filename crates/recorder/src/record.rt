@@ -14,7 +14,7 @@ ghost use Rattle.edits.specs.Answers.{Answers};
 use crate::feature::Named;
 use crate::{attribute, create, many, place, reference};
 use ecore_meta::Metamodel;
-use edit_laws::EditFault;
+use edit_steps::EditFault;
 use edits::{Edit, Recorded};
 use model_state::Look;
 use std::alloc::Global;

@@ -8,20 +8,19 @@ ghost use Rattle.model_state.specs.Steps.{class_has};
 ghost use Rattle.model_state.specs.Typing.{is_plain, kind_of};
 ghost use Rattle.model_state.specs.declared.operation.OpKind.TheVariants.{Reference};
 ghost use Rattle.emfjson_io.specs.Values.{value_of};
-ghost use Rattle.edit_laws.specs.declared.fault.EditFault.TheVariants.{Memory, NoEntry};
-ghost use Rattle.edit_laws.specs.References.{holds_one};
+ghost use Rattle.edit_steps.specs.declared.fault.EditFault.TheVariants.{Memory, NoEntry};
+ghost use Rattle.edit_steps.specs.References.{holds_one};
 ghost use Rattle.edits.specs.Edits.{Forgets, is_listed, link_effect, operation_of, recording, recording_of, refer_effect, reorder_effect, target_in, unlink_effect};
 ghost use Rattle.edits.specs.Answers.{Answers};
 
 use crate::feature::{Named, live, read};
 use crate::operation::operation;
 use ecore_meta::{Metamodel, Scalar, Value};
-use edit_laws::EditFault;
+use edit_steps::{
+    EditFault, holds_one, link_steps, reorder_steps, set_ref_steps, unlink_steps, unset_ref_steps,
+};
 use edits::Recorded;
 use model_state::{Id, IdFault, Look, OpKind, Step, is_plain};
-use opposites::{
-    holds_one, link_steps, reorder_steps, set_ref_steps, unlink_steps, unset_ref_steps,
-};
 use std::alloc::{AllocError, Global};
 use texts::{List, Text};
 

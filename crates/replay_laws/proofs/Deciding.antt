@@ -19,7 +19,7 @@ use Rattle.model_state.specs.declared.step.ApplyFault.{ApplyFault}
 use Rattle.model_laws.proofs.Stops.{leads_no_stop}
 use Rattle.footprint.specs.declared.bucket.Bucket.{Bucket}
 use Rattle.merge_laws.specs.Choices.{are_choices}
-use Rattle.tidy_laws.specs.Tidy.{is_tidy}
+use Rattle.merge_laws.specs.Tidy.{is_tidy}
 use Rattle.history_tree.specs.declared.version.Version.{Version}
 use Rattle.history_tree.specs.History.{head}
 use Rattle.history_tree.specs.Found.{branch_name, has_tag, on_its_branch}

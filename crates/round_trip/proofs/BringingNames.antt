@@ -20,7 +20,7 @@ use Rattle.model_state.specs.State.{State, is_live, place_eq}
 use Rattle.model_state.proofs.Orders.{id_order}
 use Rattle.model_state.proofs.StepTests.{place_equality}
 use Rattle.model_laws.proofs.Inserts.{or_none}
-use Rattle.edit_laws.proofs.Lists.{any-in_order, any-map, picked_has}
+use Rattle.edit_steps.proofs.Lists.{any-in_order, any-map, picked_has}
 use Rattle.model_documents.specs.declared.doc.DocParent.{DocParent}
 use Rattle.model_documents.specs.declared.doc.DocRow.{DocRow}
 use Rattle.model_documents.specs.Fits.{DocumentFits, StandsFit, standing}

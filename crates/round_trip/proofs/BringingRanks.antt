@@ -17,10 +17,10 @@ use Rattle.model_state.specs.Keys.{IdBytes, id_cmp}
 use Rattle.model_state.specs.Listing.{children, entry_cmp, rank_at}
 use Rattle.model_state.specs.State.{place_eq}
 use Rattle.model_state.proofs.Orders.{id_order}
-use Rattle.edit_laws.specs.Places.{Ranks, ranked_places}
-use Rattle.edit_laws.specs.Spot.{Spot, end_spot, evened, rank_for, ranks_of}
-use Rattle.edit_laws.specs.declared.fault.EditFault.TheVariants.{Bound}
-use Rattle.edit_laws.proofs.Lists.{entries_held}
+use Rattle.edit_steps.specs.Places.{Ranks, ranked_places}
+use Rattle.edit_steps.specs.Spot.{Spot, end_spot, evened, rank_for, ranks_of}
+use Rattle.edit_steps.specs.declared.fault.EditFault.TheVariants.{Bound}
+use Rattle.edit_steps.proofs.Lists.{entries_held}
 use Rattle.model_documents.specs.declared.doc.DocRow.{DocRow}
 use Rattle.model_documents.specs.Fits.{DocumentFits, standing}
 use Rattle.import_laws.specs.After.{ranks_after, ranks_from}

@@ -13,8 +13,8 @@ use Rattle.model_state.specs.Good.{Good, RowOk}
 use Rattle.model_state.specs.Keys.{IdBytes, RowKey, row_cmp}
 use Rattle.model_state.specs.Listing.{targets}
 use Rattle.model_state.specs.State.{State}
-use Rattle.edit_laws.specs.Rows.{Rows}
-use Rattle.edit_laws.proofs.Lists.{targets_has, targets_held}
+use Rattle.edit_steps.specs.Rows.{Rows}
+use Rattle.edit_steps.proofs.Lists.{targets_has, targets_held}
 use Rattle.model_documents.specs.declared.doc.DocRefs.{DocRefs}
 use Rattle.model_documents.specs.declared.doc.DocRow.{DocRow}
 use Rattle.model_documents.specs.Fits as fits

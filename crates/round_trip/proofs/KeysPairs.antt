@@ -6,7 +6,7 @@ use Rattle.std.specs.List.{AllByRecursion}
 use Rattle.std.specs.Str.{bytes_eq}
 use Rattle.std.proofs.lemmas.Slice.Eq.{bytes_eq-Decides}
 use Rattle.finite_maps.specs.Sorts.{put_in, in_order}
-use Rattle.edit_laws.proofs.Lists.{all-in_order, all-put_in}
+use Rattle.edit_steps.proofs.Lists.{all-in_order, all-put_in}
 use Rattle.ecore_meta.specs.Names.{Name}
 
 pub bytes_same : (x y : Name) → bytes_eq x y ≡ true → x ≡ y

@@ -18,9 +18,9 @@ use Rattle.model_state.specs.Keys.{IdBytes, RowKey, id_cmp}
 use Rattle.model_state.specs.Listing.{children, entry_cmp, is_of, rank_at, row_entry, targets}
 use Rattle.model_state.specs.State.{place_eq}
 use Rattle.model_state.proofs.Orders.{entry_order, row_order}
-use Rattle.edit_laws.specs.Places.{Ranks}
-use Rattle.edit_laws.specs.Rows.{Rows}
-use Rattle.edit_laws.proofs.Lists.{all-in_order, tally-filter, targets_held}
+use Rattle.edit_steps.specs.Places.{Ranks}
+use Rattle.edit_steps.specs.Rows.{Rows}
+use Rattle.edit_steps.proofs.Lists.{all-in_order, tally-filter, targets_held}
 use Rattle.model_texts.specs.Tree.{entry_ids}
 use Rattle.import_laws.specs.After.{Places}
 use Rattle.import_laws.specs.News.{rank_of}

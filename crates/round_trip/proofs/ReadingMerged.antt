@@ -19,7 +19,7 @@ use Rattle.model_state.specs.Keys.{IdBytes}
 use Rattle.model_state.specs.Listing.{targets}
 use Rattle.model_state.specs.State.{State, is_live}
 use Rattle.model_state.specs.Typing.{is_plain, row_upper}
-use Rattle.edit_laws.proofs.Lists.{Apart, targets_apart, targets_has}
+use Rattle.edit_steps.proofs.Lists.{Apart, targets_apart, targets_has}
 use Rattle.model_documents.specs.declared.doc.DocRefs.{DocRefs}
 use Rattle.model_documents.specs.declared.doc.DocRow.{DocRow}
 use Rattle.model_documents.specs.declared.fault.ModelFault.TheVariants.{Bound}

@@ -25,7 +25,7 @@ use Rattle.model_state.specs.Good.{AttrOk, Good, ValuesOk}
 use Rattle.model_state.specs.Keys.{IdBytes}
 use Rattle.model_state.specs.State.{State}
 use Rattle.emfjson_io.specs.Values.{data_of}
-use Rattle.edit_laws.proofs.Lists.{all-in_order}
+use Rattle.edit_steps.proofs.Lists.{all-in_order}
 use Rattle.model_texts.specs.Keys.{key_name, keys_of}
 use Rattle.model_state.specs.Listing.{values_at}
 use Rattle.model_texts.specs.Tree.{child_ids, content, element, first_value, is_single, listed, members, object_of, one_or_list, part, reference}

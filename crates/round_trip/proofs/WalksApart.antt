@@ -19,7 +19,7 @@ use Rattle.model_state.specs.Good.{Good}
 use Rattle.model_state.specs.Keys.{IdBytes}
 use Rattle.model_state.specs.Listing.{children}
 use Rattle.model_state.specs.State.{State}
-use Rattle.edit_laws.proofs.Creates.{Stand, children_stand}
+use Rattle.edit_steps.proofs.Creates.{Stand, children_stand}
 use Rattle.model_documents.specs.Parts.{Ids, ids_of}
 use Rattle.model_texts.specs.Keys.{key_number, keys_of}
 use Rattle.model_texts.specs.Tree.{child_ids}

@@ -23,7 +23,7 @@ use Rattle.model_state.specs.Steps.{class_has}
 use Rattle.model_state.specs.Typing.{contains_to}
 use Rattle.model_state.proofs.Orders.{id_order}
 use Rattle.model_state.proofs.StepTests.{place_equality}
-use Rattle.edit_laws.proofs.Lists.{any-in_order, any-map, picked_has}
+use Rattle.edit_steps.proofs.Lists.{any-in_order, any-map, picked_has}
 use Rattle.model_texts.specs.Keys.{key_name, keys_of}
 use Rattle.model_texts.specs.Laws.{IsNested}
 use Rattle.model_texts.specs.Tree.{child_ids, content, is_single, listed, members, object_of, part, whole}

@@ -26,7 +26,7 @@ use Rattle.model_documents.specs.Classes.{class_of, id_of, may_stand}
 use Rattle.model_documents.specs.Parts.{no_part, Ids, ids_of}
 use Rattle.model_documents.specs.Reads.{«then», unless, found}
 use Rattle.model_documents.specs.Walk.{element_rows, feature_key, held_rows, key_named, key_part, members_rows, own_rows}
-use Rattle.edit_laws.proofs.Lists.{all-in_order}
+use Rattle.edit_steps.proofs.Lists.{all-in_order}
 use Rattle.model_texts.specs.Keys.{key_name, key_cmp, keys_of}
 use Rattle.model_texts.specs.Laws.{IsNested}
 use Rattle.model_state.specs.Listing.{values_at}

@@ -18,11 +18,11 @@ use Rattle.model_state.specs.Listing.{targets, values_at}
 use Rattle.model_state.specs.Lists.{values_of}
 use Rattle.model_state.specs.State.{State, is_live}
 use Rattle.model_state.specs.Typing.{is_plain, is_attr, kind_of, opposite_of, upper_of}
-use Rattle.edit_laws.specs.Attributes.{single_value}
-use Rattle.edit_laws.specs.Rows.{Rows, link_step, mirror_rank}
-use Rattle.edit_laws.proofs.Lists.{targets_held}
-use Rattle.containment.specs.Deletes.{slots_of, holds_values}
-use Rattle.containment.proofs.ElementsGone.{AllLive}
+use Rattle.edit_steps.specs.Attributes.{single_value}
+use Rattle.edit_steps.specs.Rows.{Rows, link_step, mirror_rank}
+use Rattle.edit_steps.proofs.Lists.{targets_held}
+use Rattle.edit_steps.specs.Deletes.{slots_of, holds_values}
+use Rattle.edit_steps.proofs.ElementsGone.{AllLive}
 use Rattle.op_form.specs.Formed.{IsU32, IsU64, IsIdText, IsGiven, IsValue, IsPlace, IsStep}
 use Rattle.state_steps.specs.Whole.{birth, births, put_first, inserts, filled, all_filled, is_less, leads, linked, all_linked, elements_of, as_steps}
 use Rattle.state_steps.proofs.Everyone.{all_live}

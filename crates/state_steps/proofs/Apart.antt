@@ -17,11 +17,11 @@ use Rattle.model_state.specs.State.{State, is_live}
 use Rattle.model_state.specs.Steps.{class_has, may_link}
 use Rattle.model_state.specs.Typing.{opposite_of, is_plain, kind_of, plain_to}
 use Rattle.model_state.specs.Good.{Good, Sound, RowOk}
-use Rattle.edit_laws.specs.Rows.{Rows, is_row_or_mirror, is_mirror, unlinks}
-use Rattle.containment.specs.Deletes.{is_touched, targets_left, outgoing_made, slots_of}
-use Rattle.containment.proofs.Members.{In, Distinct, in_either, kept_in}
-use Rattle.containment.proofs.Slots.{slot_in, touched_by}
-use Rattle.containment.proofs.Children.{feature_listed}
+use Rattle.edit_steps.specs.Rows.{Rows, is_row_or_mirror, is_mirror, unlinks}
+use Rattle.edit_steps.specs.Deletes.{is_touched, targets_left, outgoing_made, slots_of}
+use Rattle.edit_steps.proofs.Members.{In, Distinct, in_either, kept_in}
+use Rattle.edit_steps.proofs.Slots.{slot_in, touched_by}
+use Rattle.edit_steps.proofs.Children.{feature_listed}
 use Rattle.state_steps.specs.Whole.{is_less, leads, links_of, unlinked}
 
 plain_some : (meta : Meta) (k : Kind) (d : ℕ) → plain_to meta k d ≡ true → is_plain k ≡ true

@@ -16,16 +16,16 @@ use Rattle.model_state.specs.Steps.{fold}
 use Rattle.model_state.specs.Typing.{is_plain}
 use Rattle.model_state.proofs.Orders.{id_order, attr_order, row_order}
 use Rattle.model_laws.proofs.Runs.{fold_append, reversal_undoes}
-use Rattle.edit_laws.specs.Rows.{Rows}
-use Rattle.edit_laws.proofs.Clears.{Leads}
-use Rattle.containment.specs.Deletes.{gone_made, holds_values, is_touched, outgoing_made, slots_of, values_made}
-use Rattle.containment.specs.Subtree.{is_among}
-use Rattle.containment.proofs.Children.{has_children}
-use Rattle.containment.proofs.ElementsGone.{Bare, elements_lead, stripped}
-use Rattle.containment.proofs.Members.{Distinct, distinct_filter}
-use Rattle.containment.proofs.Outgoing.{outgoing_leads}
-use Rattle.containment.proofs.Slots.{slots_distinct}
-use Rattle.containment.proofs.ValuesGone.{attributes, kept_all, values_lead, values_left}
+use Rattle.edit_steps.specs.Rows.{Rows}
+use Rattle.edit_steps.proofs.Clears.{Leads}
+use Rattle.edit_steps.specs.Deletes.{gone_made, holds_values, is_touched, outgoing_made, slots_of, values_made}
+use Rattle.edit_steps.specs.Subtree.{is_among}
+use Rattle.edit_steps.proofs.Children.{has_children}
+use Rattle.edit_steps.proofs.ElementsGone.{Bare, elements_lead, stripped}
+use Rattle.edit_steps.proofs.Members.{Distinct, distinct_filter}
+use Rattle.edit_steps.proofs.Outgoing.{outgoing_leads}
+use Rattle.edit_steps.proofs.Slots.{slots_distinct}
+use Rattle.edit_steps.proofs.ValuesGone.{attributes, kept_all, values_lead, values_left}
 use Rattle.state_steps.specs.Whole.{elements_of, leads, links_of, unlinked, unmade, StepsBuild}
 use Rattle.state_steps.proofs.Apart.{all_out, lead_filtered, touched_all}
 use Rattle.state_steps.proofs.Turned.{all_turned}

@@ -9,15 +9,15 @@ use Rattle.model_state.specs.Chains.{IsChain}
 use Rattle.model_state.specs.Keys.{IdBytes}
 use Rattle.model_state.specs.Good.{Good, PlaceOk}
 use Rattle.model_state.specs.State.{State, is_live}
-use Rattle.edit_laws.proofs.Creates.{placed_live}
-use Rattle.containment.specs.Subtree.{each, subtree_of, is_among}
-use Rattle.containment.proofs.Children.{has_children, child_there, children_have, children_once}
-use Rattle.containment.proofs.Containers.{live_place}
-use Rattle.containment.proofs.ElementsGone.{AllLive}
-use Rattle.containment.proofs.Forests.{IsForest, forest_joins}
-use Rattle.containment.proofs.Levels.{subtree_is}
-use Rattle.containment.proofs.Members.{In, Distinct, in_among}
-use Rattle.containment.proofs.Trees.{HasChildren, Ordered, Up, Spread, AsideAll, forest_below, forest_has, forest_ordered, all_below}
+use Rattle.edit_steps.proofs.Creates.{placed_live}
+use Rattle.edit_steps.specs.Subtree.{each, subtree_of, is_among}
+use Rattle.edit_steps.proofs.Children.{has_children, child_there, children_have, children_once}
+use Rattle.edit_steps.proofs.Containers.{live_place}
+use Rattle.edit_steps.proofs.ElementsGone.{AllLive}
+use Rattle.edit_steps.proofs.Forests.{IsForest, forest_joins}
+use Rattle.edit_steps.proofs.Levels.{subtree_is}
+use Rattle.edit_steps.proofs.Members.{In, Distinct, in_among}
+use Rattle.edit_steps.proofs.Trees.{HasChildren, Ordered, Up, Spread, AsideAll, forest_below, forest_has, forest_ordered, all_below}
 use Rattle.state_steps.specs.Whole.{roots_of, elements_of}
 
 module _ (meta : Meta) (m : State) (good : Good meta m) where

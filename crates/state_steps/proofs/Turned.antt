@@ -15,10 +15,10 @@ use Rattle.model_state.specs.Listing.{targets, values_at}
 use Rattle.model_state.specs.State.{State}
 use Rattle.model_state.specs.Steps.{rev, rev_all}
 use Rattle.model_state.specs.Typing.{opposite_of, is_plain, is_attr, kind_of, value_eq}
-use Rattle.edit_laws.specs.Attributes.{single_value, put_made}
-use Rattle.edit_laws.specs.ManyValues.{dels}
-use Rattle.edit_laws.specs.Rows.{Rows, unlinks, unlink_step, link_step, mirror_rank}
-use Rattle.containment.specs.Deletes.{gone_made, gone_step, emptied_made, values_made, slots_of, holds_values}
+use Rattle.edit_steps.specs.Attributes.{single_value, put_made}
+use Rattle.edit_steps.specs.ManyValues.{dels}
+use Rattle.edit_steps.specs.Rows.{Rows, unlinks, unlink_step, link_step, mirror_rank}
+use Rattle.edit_steps.specs.Deletes.{gone_made, gone_step, emptied_made, values_made, slots_of, holds_values}
 use Rattle.state_steps.specs.Whole.{birth, births, put_first, inserts, filled, all_filled, linked, all_linked, leads, links_of, unlinked}
 
 pub rev_join : (xs ys : List Step) → rev_all (xs ++ ys) ≡ rev_all ys ++ rev_all xs

@@ -14,11 +14,11 @@ use Rattle.model_state.specs.Listing.{targets, children, rank_at, values_at}
 use Rattle.model_state.specs.State.{State, nothing}
 use Rattle.model_state.specs.Steps.{fold}
 use Rattle.model_state.specs.Typing.{opposite_of, is_plain, is_attr, kind_of}
-use Rattle.edit_laws.specs.Attributes.{single_value}
-use Rattle.edit_laws.specs.Rows.{Rows, unlinks, link_step, mirror_rank}
-use Rattle.containment.specs.Deletes.{slots_of, values_made, gone_made, holds_values}
-use Rattle.containment.specs.Subtree.{each, subtree_of}
-use Rattle.edit_laws.specs.Standing.{ids_of}
+use Rattle.edit_steps.specs.Attributes.{single_value}
+use Rattle.edit_steps.specs.Rows.{Rows, unlinks, link_step, mirror_rank}
+use Rattle.edit_steps.specs.Deletes.{slots_of, values_made, gone_made, holds_values}
+use Rattle.edit_steps.specs.Subtree.{each, subtree_of}
+use Rattle.edit_steps.specs.Standing.{ids_of}
 
 -- the elements at the root, in order
 abbrev pub roots_of : State → List IdBytes

@@ -2,12 +2,12 @@
 ghost use Rattle.std.specs.Prelude.{◌≡◌, ◌++◌, IfOk, OnOk};
 ghost use Rattle.model_state.specs.Good.{Good};
 ghost use Rattle.model_state.specs.declared.step.Step.TheVariants.{New};
-ghost use Rattle.containment.specs.Subtree.{each, subtree_of};
+ghost use Rattle.edit_steps.specs.Subtree.{each, subtree_of};
 ghost use Rattle.state_steps.specs.Whole.{birth, births, elements_of};
-ghost use Rattle.edit_laws.specs.Standing.{ids_of};
+ghost use Rattle.edit_steps.specs.Standing.{ids_of};
 
-use containment::subtree;
 use ecore_meta::Metamodel;
+use edit_steps::subtree;
 use model_state::{Entry, Id, Look, Place, Step};
 use std::alloc::{AllocError, Global};
 use texts::List;

@@ -2,11 +2,11 @@
 ghost use Rattle.std.specs.Prelude.{◌≡◌, ◌++◌, ◌∷◌, [], IfOk, OnOk};
 ghost use Rattle.model_state.specs.Typing.{opposite_of};
 ghost use Rattle.model_state.specs.declared.step.Step.TheVariants.{Link};
-ghost use Rattle.edit_laws.specs.Rows.{link_step, mirror_rank};
+ghost use Rattle.edit_steps.specs.Rows.{link_step, mirror_rank};
 ghost use Rattle.state_steps.specs.Whole.{leads, linked, all_linked};
 
-use containment::Slot;
 use ecore_meta::Metamodel;
+use edit_steps::Slot;
 use model_state::{Entry, Id, Look, Step, opposite_of};
 use std::alloc::{AllocError, Global};
 use texts::List;

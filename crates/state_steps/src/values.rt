@@ -3,12 +3,12 @@ ghost use Rattle.std.specs.Prelude.{◌≡◌, ◌≤◌, ◌++◌, IfOk, None, 
 ghost use Rattle.std.specs.FinMap.{get};
 ghost use Rattle.model_state.specs.Good.{Good};
 ghost use Rattle.model_state.specs.declared.step.Step.TheVariants.{Ins, Put};
-ghost use Rattle.edit_laws.specs.Attributes.{single_value};
+ghost use Rattle.edit_steps.specs.Attributes.{single_value};
 ghost use Rattle.state_steps.specs.Whole.{put_first, inserts, filled, all_filled};
 ghost use Rattle.model_state.specs.Ranks.{most_entries};
 
-use containment::Slot;
 use ecore_meta::{Metamodel, Value};
+use edit_steps::Slot;
 use model_state::{Id, Look, Step, is_attr};
 use std::alloc::{AllocError, Global};
 use texts::List;

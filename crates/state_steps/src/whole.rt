@@ -4,14 +4,14 @@ ghost use Rattle.model_state.specs.Good.{Good, Sound};
 ghost use Rattle.model_state.specs.State.{nothing};
 ghost use Rattle.model_state.specs.Steps.{fold};
 ghost use Rattle.model_state.specs.Typing.{is_plain};
-ghost use Rattle.containment.specs.Deletes.{slots_of, holds_values};
+ghost use Rattle.edit_steps.specs.Deletes.{slots_of, holds_values};
 ghost use Rattle.state_steps.specs.Whole.{all_filled, all_linked, as_steps, births};
 
 use crate::elements::{births, elements};
 use crate::links::link_all;
 use crate::values::fill_all;
-use containment::{Sort, slots_of};
 use ecore_meta::Metamodel;
+use edit_steps::{Sort, slots_of};
 use model_state::{Id, Look, Step};
 use std::alloc::{AllocError, Global};
 use texts::List;

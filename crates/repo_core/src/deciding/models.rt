@@ -106,7 +106,13 @@ pub(crate) fn name_creation(
 }
 
 /// What is known of a working model, said of the workspace that it is of. It does nothing.
-pub(crate) fn recall_settled(_repo: &Repo, _begun: &Begun, _ws: u32, _workspace: &Workspace, _model: &Graph)
+pub(crate) fn recall_settled(
+    _repo: &Repo,
+    _begun: &Begun,
+    _ws: u32,
+    _workspace: &Workspace,
+    _model: &Graph,
+)
     requires meta { _repo.now.meta ≡ Some _begun.now.meta }
     requires there { workspace_of _repo.now _ws ≡ Some (plain_of _workspace.now) }
     requires model { IsWorkingModel _repo.now _ws _model.now }

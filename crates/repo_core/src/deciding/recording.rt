@@ -8,7 +8,7 @@ ghost use Rattle.repo_core.specs.Decisions.{seen, CanMakeIt};
 
 use crate::deciding::answers::{Decision, number_words, refuse, tell, with_room};
 use crate::deciding::models::recall_settled;
-use edit_laws::EditFault;
+use edit_steps::EditFault;
 use edits::{Edit, Recorded};
 use emfjson_model::read_model;
 use model_documents::ModelFault;

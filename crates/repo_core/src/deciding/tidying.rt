@@ -1,7 +1,7 @@
 //! The command `tidy`.
 ghost use Rattle.std.specs.Prelude.{◌≡◌, IfOk, Some};
 ghost use Rattle.plain_repository.specs.Tidying.{decide_tidy};
-ghost use Rattle.tidy_laws.specs.Tidy.{is_tidy};
+ghost use Rattle.merge_laws.specs.Tidy.{is_tidy};
 ghost use Rattle.repo_core.specs.Decisions.{seen, CanMakeIt};
 
 use crate::deciding::answers::{Decision, refuse, tell_lines, with_event};

@@ -1,7 +1,7 @@
 -- by whether a rule applies to the last that touches
 use Rattle.std.proofs.Common.{sym, ◌∙◌}
 use Rattle.finite_maps.proofs.Cases.{no_some}
-use Rattle.tidy_laws.specs.Rules.{met}
+use Rattle.merge_laws.specs.Rules.{met}
 use Rattle.canoniser.proofs.Turning.{not_met, is_rule}
 use Rattle.canoniser.proofs.search.nearest.Goals as goal
 

@@ -1,6 +1,6 @@
 -- the operations of the steps so far stand, and those of the rest come
 use Rattle.std.proofs.Common.{◌≡◌, ◌++◌, drop}
-use Rattle.tidy_laws.specs.Split.{singles}
+use Rattle.merge_laws.specs.Split.{singles}
 use Rattle.canoniser.proofs.splitting.put_singles.Given as goal
 
 abbrev pub invariant-loop-step : goal.invariant-loop-step

@@ -2,7 +2,7 @@
 use Rattle.std.proofs.Common.{length, nat_eq, List, sym, ap, ◌∙◌}
 use Rattle.std.specs.List.{list_all}
 use Rattle.model_state.specs.declared.operation.Operation.{Operation}
-use Rattle.tidy_laws.specs.Split.{is_single}
+use Rattle.merge_laws.specs.Split.{is_single}
 use Rattle.canoniser.proofs.Tidied.{not_cut, as_many}
 use Rattle.canoniser.proofs.tidying.is_tidy.Goals as goal
 

@@ -1,10 +1,10 @@
 -- the rules leave no choice, and what they leave is normal
 use Rattle.std.proofs.Common.{◌≡◌, sym, ap, subst, ◌∙◌}
-use Rattle.tidy_laws.specs.Split.{split}
-use Rattle.tidy_laws.specs.Rules.{Settles}
-use Rattle.tidy_laws.specs.Tidy.{Normal}
-use Rattle.tidy_laws.proofs.Whole.{tidy_follows_rules, tidy_is_normal}
-use Rattle.tidy_laws.proofs.Choice.{rules_leave_no_choice}
+use Rattle.merge_laws.specs.Split.{split}
+use Rattle.merge_laws.specs.Rules.{Settles}
+use Rattle.merge_laws.specs.Tidy.{Normal}
+use Rattle.merge_laws.proofs.Whole.{tidy_follows_rules, tidy_is_normal}
+use Rattle.merge_laws.proofs.RuleChoice.{rules_leave_no_choice}
 use Rattle.canoniser.specs.Meetings.{kept}
 use Rattle.canoniser.proofs.tidying.tidy.Goals as goal
 

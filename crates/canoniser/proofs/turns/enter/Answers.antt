@@ -1,7 +1,7 @@
 -- one turn more
 use Rattle.std.proofs.Common.{◌<◌, length, sym, ap, subst, refl, ◌∙◌, arith, length-append, true, [], ◌∷◌}
 use Rattle.footprint.proofs.Printed.{as_many}
-use Rattle.tidy_laws.specs.Rules.{Settles}
+use Rattle.merge_laws.specs.Rules.{Settles}
 use Rattle.canoniser.specs.Meetings.{kept, Calm, Ready}
 use Rattle.canoniser.proofs.Comes.{calm_ready, kept_more}
 use Rattle.canoniser.proofs.Turning.{on_some, on_none, if_some}

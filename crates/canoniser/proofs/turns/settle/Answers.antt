@@ -1,6 +1,6 @@
 -- one operation more
 use Rattle.std.proofs.Common.{◌≡◌, ◌+◌, length, ap, subst, refl, ◌∙◌, arith}
-use Rattle.tidy_laws.specs.Rules.{Settles}
+use Rattle.merge_laws.specs.Rules.{Settles}
 use Rattle.canoniser.specs.Meetings.{kept}
 use Rattle.canoniser.proofs.Comes.{calm_none, calm_settles}
 use Rattle.canoniser.proofs.turns.settle.Goals as goal

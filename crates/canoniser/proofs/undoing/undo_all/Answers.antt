@@ -1,7 +1,7 @@
 -- By one step more.
 use Rattle.std.proofs.Common.{sym, ◌∙◌}
 use Rattle.model_state.specs.Steps.{rev_all}
-use Rattle.step_pairs.specs.Joins.{steps_eq}
+use Rattle.merge_laws.specs.Joins.{steps_eq}
 use Rattle.canoniser.proofs.Reversals.{unlike, differs, goes_on}
 use Rattle.canoniser.proofs.undoing.undo_all.Goals as goal
 

@@ -1,9 +1,9 @@
 -- the buckets are classes, in order
 use Rattle.std.proofs.Common.{sym, subst}
-use Rattle.bucket_laws.specs.Classes.{AreClasses}
-use Rattle.bucket_laws.specs.Order.{InOrder}
-use Rattle.bucket_laws.proofs.Exact.{buckets_are_classes}
-use Rattle.bucket_laws.proofs.Order.{buckets_in_order}
+use Rattle.merge_laws.specs.Classes.{AreClasses}
+use Rattle.merge_laws.specs.Order.{InOrder}
+use Rattle.merge_laws.proofs.Exact.{buckets_are_classes}
+use Rattle.merge_laws.proofs.Order.{buckets_in_order}
 use Rattle.conflict_buckets.proofs.grouping.buckets.Goals as goal
 
 pub returns-clause-classes : goal.returns-clause-classes

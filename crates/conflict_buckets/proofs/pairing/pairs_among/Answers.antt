@@ -1,6 +1,6 @@
 use Rattle.std.proofs.Common.{◌<◌, ◌≤◌, length, subst}
 use Rattle.footprint.proofs.Printed.{as_many}
-use Rattle.bucket_laws.specs.Pairs.{pairs}
+use Rattle.merge_laws.specs.Pairs.{pairs}
 use Rattle.conflict_buckets.proofs.Paired.{pairs_end, pairs_further}
 use Rattle.conflict_buckets.proofs.pairing.pairs_among.Goals as goal
 

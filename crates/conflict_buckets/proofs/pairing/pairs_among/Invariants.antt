@@ -1,6 +1,6 @@
 -- the pairs so far, and those that are left
 use Rattle.std.proofs.Common.{◌≡◌, ◌++◌, drop}
-use Rattle.bucket_laws.specs.Pairs.{pairs, pairs_from}
+use Rattle.merge_laws.specs.Pairs.{pairs, pairs_from}
 use Rattle.conflict_buckets.proofs.pairing.pairs_among.Given as goal
 
 abbrev pub invariant-loop-i : goal.invariant-loop-i

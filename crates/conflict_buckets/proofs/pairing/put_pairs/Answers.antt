@@ -1,7 +1,7 @@
 -- one pair more
 use Rattle.std.proofs.Common.{◌+◌, ◌<◌, ◌≤◌, ◌++◌, true, false, drop, length, refl, sym, ap, subst, ◌∙◌}
 use Rattle.footprint.proofs.Printed.{as_many}
-use Rattle.bucket_laws.specs.Pairs.{pairs_with}
+use Rattle.merge_laws.specs.Pairs.{pairs_with}
 use Rattle.conflict_buckets.proofs.Paired.{pair_turn, with_end}
 use Rattle.conflict_buckets.proofs.pairing.put_pairs.Goals as goal
 use Rattle.conflict_buckets.proofs.pairing.put_pairs.Goals.{then-interferes+in_ok-push, else-interferes}

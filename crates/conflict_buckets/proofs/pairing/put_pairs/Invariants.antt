@@ -4,7 +4,7 @@ use Rattle.ecore_meta.specs.Meta.{Meta}
 use Rattle.model_state.specs.declared.operation.Operation.{Operation}
 use Rattle.footprint.specs.Prints.{shown, printed}
 use Rattle.footprint.specs.declared.cell.Print.{Print}
-use Rattle.bucket_laws.specs.Pairs.{pairs_with}
+use Rattle.merge_laws.specs.Pairs.{pairs_with}
 use Rattle.conflict_buckets.proofs.pairing.put_pairs.Given as goal
 
 abbrev pub invariant-loop-k : goal.invariant-loop-k

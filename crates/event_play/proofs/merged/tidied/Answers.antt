@@ -1,6 +1,6 @@
 use Rattle.std.proofs.Common.{◌≡◌, Some, sym, ◌∙◌, ap}
 use Rattle.std.specs.Prelude.{not}
-use Rattle.tidy_laws.specs.Tidy.{tidy}
+use Rattle.merge_laws.specs.Tidy.{tidy}
 use Rattle.repo_state.specs.Keeping.{plain_of}
 use Rattle.event_play.proofs.Putting.{tidy_keeps, tidy_leads}
 use Rattle.event_play.proofs.merged.tidied.Goals as goal

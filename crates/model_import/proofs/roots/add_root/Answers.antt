@@ -4,8 +4,8 @@ use Rattle.model_state.specs.declared.entry.Entry.{Entry}
 use Rattle.model_state.specs.declared.step.Place.TheVariants.{Root}
 use Rattle.model_state.specs.declared.step.Step.{Step}
 use Rattle.model_state.specs.declared.step.Step.TheVariants.{New}
-use Rattle.edit_laws.specs.Places.{rerank_places}
-use Rattle.edit_laws.specs.Spot.{evened, rank_for, ranks_of}
+use Rattle.edit_steps.specs.Places.{rerank_places}
+use Rattle.edit_steps.specs.Spot.{evened, rank_for, ranks_of}
 use Rattle.import_laws.proofs.Ends.{after_kept, made_kept, after_new, made_new, room_new}
 use Rattle.model_import.proofs.roots.add_root.Goals as goal
 use Rattle.model_state.specs.Ranks.{most_entries, rank_gap}

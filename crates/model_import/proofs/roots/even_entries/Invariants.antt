@@ -1,5 +1,5 @@
 use Rattle.std.proofs.Common.{◌≡◌, ◌++◌, ◌+◌, drop}
-use Rattle.edit_laws.specs.Spot.{evened}
+use Rattle.edit_steps.specs.Spot.{evened}
 use Rattle.import_laws.specs.Roots.{with_ranks}
 use Rattle.model_import.proofs.roots.even_entries.Given as goal
 

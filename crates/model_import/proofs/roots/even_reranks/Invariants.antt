@@ -1,6 +1,6 @@
 use Rattle.std.proofs.Common.{◌≡◌, ◌++◌, ◌+◌, drop}
-use Rattle.edit_laws.specs.Places.{rerank_places}
-use Rattle.edit_laws.specs.Spot.{evened}
+use Rattle.edit_steps.specs.Places.{rerank_places}
+use Rattle.edit_steps.specs.Spot.{evened}
 use Rattle.model_import.proofs.roots.even_reranks.Given as goal
 
 abbrev pub invariant-loop-x : goal.invariant-loop-x

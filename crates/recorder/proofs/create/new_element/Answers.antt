@@ -1,6 +1,6 @@
 use Rattle.std.proofs.Common.{◌≡◌, rules}
 use Rattle.std.specs.Prelude.{◌⊎◌, Err}
-use Rattle.edit_laws.specs.declared.fault.EditFault.TheVariants.{Memory}
+use Rattle.edit_steps.specs.declared.fault.EditFault.TheVariants.{Memory}
 use Rattle.edits.specs.FreshIds.{id_or_fresh}
 use Rattle.edits.specs.Edits.{new_effect}
 use Rattle.recorder.proofs.Founds.{new_refused}

@@ -1,7 +1,7 @@
 use Rattle.std.proofs.Common.{◌≡◌, ◌++◌, drop}
-use Rattle.containment.specs.Subtree.{each, subtree_of}
+use Rattle.edit_steps.specs.Subtree.{each, subtree_of}
 use Rattle.state_steps.proofs.elements.subtrees.Given as goal
-use Rattle.edit_laws.specs.Standing.{ids_of}
+use Rattle.edit_steps.specs.Standing.{ids_of}
 
 abbrev pub invariant-loop-root : goal.invariant-loop-root
 invariant-loop-root g l =

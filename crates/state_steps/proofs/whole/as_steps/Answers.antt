@@ -6,7 +6,7 @@ use Rattle.model_state.specs.State.{State, nothing}
 use Rattle.model_state.specs.Steps.{fold}
 use Rattle.model_state.specs.Typing.{is_plain}
 use Rattle.model_state.specs.declared.step.Step.{Step}
-use Rattle.containment.specs.Deletes.{slots_of, holds_values}
+use Rattle.edit_steps.specs.Deletes.{slots_of, holds_values}
 use Rattle.state_steps.specs.Whole.{births, all_filled, all_linked, as_steps, elements_of}
 use Rattle.state_steps.proofs.Built.{steps_build}
 use Rattle.state_steps.proofs.whole.as_steps.Goals as goal

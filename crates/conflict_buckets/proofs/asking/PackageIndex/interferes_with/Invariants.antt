@@ -1,6 +1,6 @@
 -- none of those gone over interferes with one of the package's
 use Rattle.std.proofs.Common.{◌≡◌, drop}
-use Rattle.bucket_laws.specs.Pairs.{have_pair}
+use Rattle.merge_laws.specs.Pairs.{have_pair}
 use Rattle.conflict_buckets.proofs.Asked.{meets_some}
 use Rattle.conflict_buckets.proofs.asking.PackageIndex.interferes_with.Given as goal
 

@@ -1,6 +1,6 @@
 -- the operation that all start from is linked with itself
 use Rattle.std.proofs.Common.{◌≤◌, length, arith}
-use Rattle.bucket_laws.specs.Classes.{here}
+use Rattle.merge_laws.specs.Classes.{here}
 use Rattle.cell_index.proofs.Drained.{lists_kept}
 use Rattle.conflict_buckets.proofs.Spreading.{start_on}
 use Rattle.conflict_buckets.proofs.labelling.Labels.spread.Goals as goal

@@ -2,7 +2,7 @@ use Rattle.std.proofs.Common.{ap, sym, ◌∙◌}
 use Rattle.std.specs.Prelude.{ok_or}
 use Rattle.std.specs.FinMap.{get}
 use Rattle.ecore_meta.specs.Meta.{feature_named}
-use Rattle.edit_laws.specs.declared.fault.EditFault.TheVariants.{NoFeature}
+use Rattle.edit_steps.specs.declared.fault.EditFault.TheVariants.{NoFeature}
 use Rattle.edits.specs.Edits.{feature_at}
 use Rattle.edits.proofs.Names.{feature_of}
 use Rattle.recorder.proofs.feature.Named.find.Goals as goal

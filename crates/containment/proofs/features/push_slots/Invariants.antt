@@ -1,9 +1,0 @@
-use Rattle.std.proofs.Common.{◌≡◌, ◌++◌, map, take}
-use Rattle.std.specs.List.{filter}
-use Rattle.model_state.specs.Typing.{kind_of}
-use Rattle.containment.specs.Sorts.{passes}
-use Rattle.containment.proofs.features.push_slots.Given as goal
-
--- the slots of the features so far
-abbrev pub invariant-loop-f : goal.invariant-loop-f
-invariant-loop-f l = l.slots ≡ l.initial.slots ++ map (λ f. (l.e, f)) (filter (λ f. passes l.sort (kind_of l.meta f)) (take l.f-index l.features))

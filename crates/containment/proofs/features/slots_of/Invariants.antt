@@ -1,9 +1,0 @@
-use Rattle.std.proofs.Common.{◌≡◌, ◌++◌, drop}
-use Rattle.containment.specs.Deletes.{slots_of}
-use Rattle.containment.specs.Sorts.{passes}
-use Rattle.containment.proofs.features.slots_of.Given as goal
-
-abbrev pub invariant-loop-x : goal.invariant-loop-x
-invariant-loop-x g l = l.slots
-    ++ slots_of l.meta (g.L.Look.state l.look) (passes l.sort) (drop l.x-index l.elements) ≡ slots_of l.meta (g.L.Look.state l.look)
-    (passes l.sort) l.elements

@@ -1,9 +1,0 @@
-use Rattle.std.proofs.Common.{◌≡◌, take}
-use Rattle.std.specs.List.{filter}
-use Rattle.model_state.specs.Typing.{is_containment, kind_of}
-use Rattle.containment.specs.Subtree.{children_by}
-use Rattle.containment.proofs.walk.children_of.Given as goal
-
--- the children in the features so far
-abbrev pub invariant-loop-f : goal.invariant-loop-f
-invariant-loop-f g l = l.found.items ≡ children_by (g.L.Look.state l.look) l.e (filter (λ f. is_containment (kind_of l.meta f)) (take l.f-index l.features))

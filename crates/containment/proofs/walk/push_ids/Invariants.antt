@@ -1,6 +1,0 @@
-use Rattle.std.proofs.Common.{◌≡◌, ◌++◌, take}
-use Rattle.containment.proofs.walk.push_ids.Given as goal
-use Rattle.edit_laws.specs.Standing.{ids_of}
-
-abbrev pub invariant-loop-x : goal.invariant-loop-x
-invariant-loop-x l = l.found.items ≡ l.initial.found.items ++ ids_of (take l.x-index l.list)

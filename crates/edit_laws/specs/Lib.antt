@@ -1,9 +1,0 @@
-pub mod Spot
-pub mod Rows
-pub mod References
-pub mod Refusals
-pub mod Places
-pub mod Attributes
-pub mod ManyValues
-pub mod Standing
-pub mod Laws

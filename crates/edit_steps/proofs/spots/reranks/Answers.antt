@@ -1,0 +1,11 @@
+use Rattle.std.proofs.Common.{sym, ap, ◌∙◌}
+use Rattle.edit_steps.specs.Places.{rerank_places}
+use Rattle.edit_steps.proofs.SpotLaws.{spot_kept, not_not}
+use Rattle.edit_steps.proofs.Reranks.{no_reranks}
+use Rattle.edit_steps.proofs.spots.reranks.Goals as goal
+
+pub returns-else-opening : goal.returns-else-opening
+returns-else-opening c =
+    let xs = c.args.opening.now.others in
+    c.new.ensures ∙ sym (ap (rerank_places xs)
+    (spot_kept xs c.args.opening.now.index (not_not c.args.opening.now.reranks _ c.requires.reranks c.if-opening.false)) ∙ no_reranks xs)

@@ -1,6 +1,0 @@
-use Rattle.std.proofs.Common.{◌≡◌, ◌++◌, drop}
-use Rattle.edit_laws.specs.References.{without_entry}
-use Rattle.opposites.proofs.reorder.without_entry.Given as goal
-
-abbrev pub invariant-loop-x : goal.invariant-loop-x
-invariant-loop-x l = l.others ++ without_entry l.b (drop l.x-index l.list) ≡ without_entry l.b l.list

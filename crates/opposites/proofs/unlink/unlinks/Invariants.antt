@@ -1,6 +1,0 @@
-use Rattle.std.proofs.Common.{◌≡◌, ◌++◌, take}
-use Rattle.edit_laws.specs.Rows.{unlinks}
-use Rattle.opposites.proofs.unlink.unlinks.Given as goal
-
-abbrev pub invariant-loop-x : goal.invariant-loop-x
-invariant-loop-x g l = l.steps ≡ l.initial.steps ++ unlinks (g.L.Look.state l.look).row l.opposite l.a l.f (take l.x-index l.list)
