@@ -6,7 +6,8 @@ ghost use Rattle.ecore_meta.specs.Names.{has_repeat};
 ghost use Rattle.ecore_build.specs.Faults.{any_from, answers, bad_bound, bad_bounds, contains_back, is_at, is_missing, is_self, is_skipped, is_to, is_unanswered, is_unsupported, repeats_within, unsupported};
 
 use ecore_drafts::{
-    ClassifierRow, Draft, End, LiteralRow, Target, feature_names, index, literal_names, literal_texts,
+    ClassifierRow, Draft, End, LiteralRow, Target, feature_names, index, literal_names,
+    literal_texts,
 };
 use std::alloc::{AllocError, Global};
 

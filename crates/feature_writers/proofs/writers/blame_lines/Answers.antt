@@ -10,7 +10,8 @@ use Rattle.feature_writers.proofs.writers.blame_lines.Goals as goal
 
 pub lines_on-requires-clause-rises : goal.lines_on-requires-clause-rises
 lines_on-requires-clause-rises c =
-    let rises = path_rises c.law_of_last_writes.ensures.asked c.args.meta.now c.args.history.now.history c.recall_wholeness.ensures c.args.version c.requires.there in
+    let rises = path_rises c.law_of_last_writes.ensures.asked c.args.meta.now c.args.history.now.history c.recall_wholeness.ensures c.args.version
+    c.requires.there in
     subst Rises (sym c.in_ok-path.ensures.path) rises
 
 pub returns : goal.returns
