@@ -23,9 +23,9 @@ use Rattle.store_session.specs.declared.answered.SessionFault.TheVariants as ses
 use Rattle.store_session.specs.Session.{IsStoreOf, IsEntering}
 use Rattle.store_session.proofs.Entering.{rest_leaves}
 use Rattle.script_items.specs.Items.{IsAnswered}
-use Rattle.store_runs.specs.declared.status.Status.TheVariants.{Memory}
-use Rattle.store_runs.specs.Endings.{IsUnanswered, IsHalted, Ends, IsDone, session_status}
-use Rattle.store_runs.specs.Tasks.{printing}
+use Rattle.store_session.specs.declared.status.Status.TheVariants.{Memory}
+use Rattle.store_session.specs.Endings.{IsUnanswered, IsHalted, Ends, IsDone, session_status}
+use Rattle.store_session.specs.Tasks.{printing}
 use Rattle.emf_top.specs.Tasks.{filling, silenced, outcome, outcome_line, refusals_in, others_in}
 use Rattle.emf_top.specs.Tasks as tasks
 use Rattle.store_runs.proofs.Halting.{halted, unanswered}

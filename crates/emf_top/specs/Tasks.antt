@@ -13,8 +13,8 @@ use Rattle.script_items.specs.Items.{script}
 use Rattle.script_items.specs.Generator.{generated}
 use Rattle.script_items.specs.declared.words.Request.{Request}
 use Rattle.script_items.specs.declared.words.Request.TheVariants.{Serve, Check, Generate}
-use Rattle.store_runs.specs.Tasks.{Task, serving, printing}
-use Rattle.store_runs.specs.declared.status.Status.TheVariants.{Accepted}
+use Rattle.store_session.specs.Tasks.{Task, serving, printing}
+use Rattle.store_session.specs.declared.status.Status.TheVariants.{Accepted}
 
 -- ---- --check
 -- how many there are of each, as a line

@@ -6,8 +6,8 @@ use crate::looking::check_line;
 use host_port::Host;
 use script_items::{Request, generated};
 use std::alloc::Global;
-use store_runs::{Status, Unguarded, Work, serve, show};
-use store_session::Session;
+use store_runs::{Unguarded, Work, serve, show};
+use store_session::{Session, Status};
 
 /// What the words ask for.
 #[derive(Clone, Copy)]

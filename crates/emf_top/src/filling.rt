@@ -3,15 +3,14 @@ ghost use Rattle.std.specs.Prelude.{◌≡◌, ◌≢◌, ◌≤◌, ℕ, List, 
 ghost use Rattle.host_port.specs.Host.{disk_now, Rose, GoesOn};
 ghost use Rattle.op_form.specs.declared.event.Event.{Event};
 ghost use Rattle.store_session.specs.Session.{IsStoreOf, answered_as};
-ghost use Rattle.store_runs.specs.Endings.{IsDone, KeepsUnread};
+ghost use Rattle.store_session.specs.Endings.{IsDone, KeepsUnread};
 ghost use Rattle.script_items.specs.Items.{IsAnswered};
 ghost use Rattle.emf_top.specs.Tasks.{filling, outcome_line};
 
 use host_port::Host;
 use script_items::{Item, push_count};
 use std::alloc::{AllocError, Global};
-use store_runs::{Status, status_of};
-use store_session::{Answered, Session};
+use store_session::{Answered, Session, Status, status_of};
 
 /// How many refusals an answer is.
 fn refusals(answered: Answered) -> u64

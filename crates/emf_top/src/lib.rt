@@ -10,5 +10,5 @@ mod top;
 pub use plain_repository::law_of_stores;
 pub use repo_state::law_of_counts;
 pub use script_items::generate;
-pub use store_runs::Status;
+pub use store_session::Status;
 pub use top::run;

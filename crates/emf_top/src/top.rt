@@ -10,14 +10,15 @@ ghost use Rattle.plain_repository.specs.Events.{play};
 ghost use Rattle.plain_repository.specs.Store.{StandsForEvents, StandsForNoEvents};
 ghost use Rattle.script_items.specs.Words.{AskFor, AreBad};
 ghost use Rattle.script_items.specs.declared.words.Request.{Request};
-ghost use Rattle.store_runs.specs.Endings.{Ends, NothingRose, IsKept, KeepsFile, KeepsUnread, IsFoundDamaged};
+ghost use Rattle.store_session.specs.Endings.{Ends, NothingRose, IsKept, KeepsFile, KeepsUnread, IsFoundDamaged};
 ghost use Rattle.emf_top.specs.Tasks.{task_of};
 
 use crate::asked::Asked;
 use host_port::Host;
 use script_items::request_of;
 use std::alloc::Global;
-use store_runs::{Status, over_store};
+use store_runs::over_store;
+use store_session::Status;
 
 /// All that the program does: it opens the store and does what the words ask for. Without words it answers the lines of the
 /// input, one after the other.

@@ -16,9 +16,9 @@ use Rattle.replay_laws.specs.Scripts.{script_again, are_printable}
 use Rattle.store_session.specs.declared.answered.SessionFault.{SessionFault}
 use Rattle.store_session.specs.declared.answered.SessionFault.TheVariants.{DiskFault, SayFault, Damaged, Memory}
 use Rattle.store_session.specs.Session.{AtDamage}
-use Rattle.store_runs.specs.Endings.{NothingRose, session_status}
-use Rattle.store_runs.specs.declared.status.Status.{Status}
-use Rattle.store_runs.specs.declared.status.Status.TheVariants as ends
+use Rattle.store_session.specs.Endings.{NothingRose, session_status}
+use Rattle.store_session.specs.declared.status.Status.{Status}
+use Rattle.store_session.specs.declared.status.Status.TheVariants as ends
 use Rattle.store_session.proofs.Reading.{long_with_record}
 use Rattle.store_replay.specs.Printing.{can_print, said_of, said_of_all}
 use Rattle.store_replay.specs.Endings.{EndsPrinted, IsFoundBroken, IsFoundUnprintable, IsReplay, IsToldInPart, IsUnopenedOrSame, IsWholeScript}

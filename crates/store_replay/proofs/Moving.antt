@@ -7,7 +7,7 @@ use Rattle.plain_repository.specs.Repository.{decide}
 use Rattle.script_items.specs.Items.{script}
 use Rattle.replay_laws.specs.Scripts.{script_again}
 use Rattle.replay_laws.proofs.Replaying.{stores_replay}
-use Rattle.store_runs.specs.Tasks.{end_of}
+use Rattle.store_session.specs.Tasks.{end_of}
 use Rattle.store_replay.specs.Moving.{StoresAreMadeAgain}
 
 pub stores_are_made_again : StoresAreMadeAgain

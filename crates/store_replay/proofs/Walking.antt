@@ -21,8 +21,8 @@ use Rattle.store_session.specs.Opening.{IsMounting, IsOpenedSince, PlaysEvent}
 use Rattle.store_session.specs.Session.{AtDamage, IsReplayed, IsStoreOf}
 use Rattle.store_session.specs.State.{OpeningState}
 use Rattle.store_session.proofs.Reading.{damage_since, is_long, long_with_record, since_on, stood_since}
-use Rattle.store_runs.specs.Endings.{session_status}
-use Rattle.store_runs.specs.declared.status.Status.TheVariants as ends
+use Rattle.store_session.specs.Endings.{session_status}
+use Rattle.store_session.specs.declared.status.Status.TheVariants as ends
 use Rattle.store_replay.specs.Printing.{IsPlayed, can_print, said_of, said_of_all}
 use Rattle.store_replay.specs.Endings.{IsFoundBroken, IsReplay, IsUnopenedOrSame, KeepsPart, KeepsStore}
 use Rattle.store_replay.proofs.Scripts.{first_events, part_within, printable-more, said-front, said_held, script-more}

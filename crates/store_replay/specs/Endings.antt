@@ -9,8 +9,8 @@ use Rattle.plain_repository.specs.State.{empty}
 use Rattle.plain_repository.specs.Events.{play, are_playable}
 use Rattle.plain_repository.specs.Store.{StandsForEvents, StandsForNoEvents, IsDamaged}
 use Rattle.replay_laws.specs.Scripts.{script_again, are_printable}
-use Rattle.store_runs.specs.declared.status.Status.{Status}
-use Rattle.store_runs.specs.declared.status.Status.TheVariants.{Accepted, Refused, BadWords, ReadFault, WriteFault, DiskFault, Damaged, Memory, Input}
+use Rattle.store_session.specs.declared.status.Status.{Status}
+use Rattle.store_session.specs.declared.status.Status.TheVariants.{Accepted, Refused, BadWords, ReadFault, WriteFault, DiskFault, Damaged, Memory, Input}
 use Rattle.store_replay.specs.Printing.{can_print, said_of, said_of_all}
 
 -- this text was printed, and the file stands for the events still

@@ -6,8 +6,8 @@ use Rattle.plain_repository.specs.State.{empty}
 use Rattle.plain_repository.specs.Store.{StandsForEvents}
 use Rattle.script_items.specs.Items.{script}
 use Rattle.replay_laws.specs.Scripts.{script_again, are_printable}
-use Rattle.store_runs.specs.Tasks.{Task, serving}
-use Rattle.store_runs.specs.declared.status.Status.TheVariants.{Accepted}
+use Rattle.store_session.specs.Tasks.{Task, serving}
+use Rattle.store_session.specs.declared.status.Status.TheVariants.{Accepted}
 
 -- the task makes just these events, and no line of it is refused
 pub record Makes (task : Task) (events : List Event) : Type 0 where

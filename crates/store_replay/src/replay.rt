@@ -3,14 +3,13 @@ ghost use Rattle.std.specs.Prelude.{◌≡◌, ◌≢◌, ◌⊎◌, ℕ, List, 
 ghost use Rattle.host_port.specs.Host.{disk_now};
 ghost use Rattle.op_form.specs.declared.event.Event.{Event};
 ghost use Rattle.plain_repository.specs.Store.{StandsForEvents, StandsForNoEvents};
-ghost use Rattle.store_runs.specs.Endings.{NothingRose};
+ghost use Rattle.store_session.specs.Endings.{NothingRose};
 ghost use Rattle.store_replay.specs.Endings.{EndsPrinted, IsReplay, end_of_events};
 
 use crate::event::event_said;
 use host_port::Host;
 use std::alloc::Global;
-use store_runs::{Status, status_of};
-use store_session::Opening;
+use store_session::{Opening, Status, status_of};
 
 /// Prints the store as the script that makes its events again on an empty one: the lines of one event after another, each printed before
 /// the next event is read. The input is not read, and the file stays as it was but for the sync of an opening.

@@ -11,8 +11,8 @@ use Rattle.plain_repository.specs.State.{State}
 use Rattle.plain_repository.specs.Store.{StandsForEvents}
 use Rattle.store_session.specs.Session.{IsStoreOf}
 use Rattle.store_session.proofs.Entering.{holds_stands}
-use Rattle.store_runs.specs.Endings.{IsUnanswered, IsHalted}
-use Rattle.store_runs.specs.Tasks.{Task}
+use Rattle.store_session.specs.Endings.{IsUnanswered, IsHalted}
+use Rattle.store_session.specs.Tasks.{Task}
 
 -- no more is printed and kept
 pub halted : (entry b : Told) (made : List Event) (task : Task) (left : List (Answer Event)) (state : State)

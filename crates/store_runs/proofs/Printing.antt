@@ -12,10 +12,10 @@ use Rattle.plain_repository.specs.State.{State}
 use Rattle.plain_repository.specs.Store.{StandsForEvents}
 use Rattle.store_session.specs.Session.{IsStoreOf}
 use Rattle.store_session.proofs.Entering.{holds_stands, none_added, say_step}
-use Rattle.store_runs.specs.declared.status.Status.{Status}
-use Rattle.store_runs.specs.declared.status.Status.TheVariants.{Accepted, Refused, WriteFault}
-use Rattle.store_runs.specs.Endings.{Ends, IsDone, IsServed, IsUnsaid}
-use Rattle.store_runs.specs.Tasks.{Task, telling_one}
+use Rattle.store_session.specs.declared.status.Status.{Status}
+use Rattle.store_session.specs.declared.status.Status.TheVariants.{Accepted, Refused, WriteFault}
+use Rattle.store_session.specs.Endings.{Ends, IsDone, IsServed, IsUnsaid}
+use Rattle.store_session.specs.Tasks.{Task, telling_one}
 
 module _ (entry b d : Told) (made : List Event) (task : Task) (state : State) (line bytes : List ℕ) (bytes_are : bytes ≡ line) (refused : Bool)
     (going : Going StandsForEvents entry b made task.answers (telling_one line refused ∷ []) (λ events. IsStoreOf (disk_now b) state events))

@@ -22,11 +22,11 @@ use Rattle.store_session.specs.declared.answered.SessionFault.TheVariants as ses
 use Rattle.store_session.specs.declared.answered.Answered.TheVariants as answers_as
 use Rattle.store_session.specs.Session.{answer_to, answered_as, IsStoreOf, IfMade}
 use Rattle.store_session.proofs.Entering.{rest_leaves, holds_stands, none_added, quiet_step, say_step}
-use Rattle.store_runs.specs.declared.status.Status.{Status}
-use Rattle.store_runs.specs.declared.status.Status.TheVariants.{Accepted, Refused, ReadFault}
+use Rattle.store_session.specs.declared.status.Status.{Status}
+use Rattle.store_session.specs.declared.status.Status.TheVariants.{Accepted, Refused, ReadFault}
 use Rattle.script_items.specs.Items.{GotItem}
-use Rattle.store_runs.specs.Endings.{IsServed, IsUnsaid, IsUnanswered, IsHalted, Ends, IsDone, session_status}
-use Rattle.store_runs.specs.Tasks.{Task, serving_by, input_status, end_of, telling_one, gated, gated_by}
+use Rattle.store_session.specs.Endings.{IsServed, IsUnsaid, IsUnanswered, IsHalted, Ends, IsDone, session_status}
+use Rattle.store_session.specs.Tasks.{Task, serving_by, input_status, end_of, telling_one, gated, gated_by}
 use Rattle.store_runs.proofs.Halting.{halted, kept_too, unanswered}
 
 -- a run between two commands, where the store rests

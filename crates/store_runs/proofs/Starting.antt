@@ -12,9 +12,9 @@ use Rattle.plain_repository.specs.Store.{StandsForEvents}
 use Rattle.script_items.specs.Items.{script}
 use Rattle.store_session.specs.Session.{IsStoreOf}
 use Rattle.store_session.proofs.Entering.{rest_leaves}
-use Rattle.store_runs.specs.declared.status.Status.TheVariants.{Memory}
-use Rattle.store_runs.specs.Endings.{IsDone}
-use Rattle.store_runs.specs.Tasks.{Task, serving_by}
+use Rattle.store_session.specs.declared.status.Status.TheVariants.{Memory}
+use Rattle.store_session.specs.Endings.{IsDone}
+use Rattle.store_session.specs.Tasks.{Task, serving_by}
 use Rattle.store_runs.proofs.Halting.{halted}
 
 -- a reader that begins reads the input's script

@@ -5,11 +5,9 @@
 mod gate;
 mod serving;
 mod showing;
-mod status;
 mod work;
 
 pub use gate::{Gate, Unguarded};
 pub use serving::serve;
 pub use showing::show;
-pub use status::{Status, status_of};
 pub use work::{Work, over_store};

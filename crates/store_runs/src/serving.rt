@@ -10,15 +10,14 @@ ghost use Rattle.plain_repository.specs.Events.{play};
 ghost use Rattle.plain_repository.specs.Store.{StandsForEvents};
 ghost use Rattle.script_items.specs.Items.{IsShortItem, script};
 ghost use Rattle.store_session.specs.Session.{IfMade, IsStoreOf, answered_as};
-ghost use Rattle.store_runs.specs.Endings.{IsDone, KeepsUnread};
-ghost use Rattle.store_runs.specs.Tasks.{gated, serving_by};
+ghost use Rattle.store_session.specs.Endings.{IsDone, KeepsUnread};
+ghost use Rattle.store_session.specs.Tasks.{gated, serving_by};
 
 use crate::gate::Gate;
-use crate::status::{Status, status_of, status_of_input};
 use host_port::{Host, Lines};
 use script_items::{Item, next_item};
 use std::alloc::Global;
-use store_session::{Answered, Session, SessionFault};
+use store_session::{Answered, Session, SessionFault, Status, status_of, status_of_input};
 
 /// Whether a reply was a refusal, once more was answered.
 fn refused_so_far(refused: bool, answered: Answered) -> bool

@@ -4,11 +4,11 @@ ghost use Rattle.host_port.specs.Host.{disk_now, Rose, GoesOn, KeepsDisk};
 ghost use Rattle.op_form.specs.declared.event.Event.{Event};
 ghost use Rattle.plain_repository.specs.State.{State};
 ghost use Rattle.store_session.specs.Session.{IsStoreOf};
-ghost use Rattle.store_runs.specs.Endings.{IsDone, KeepsUnread};
-ghost use Rattle.store_runs.specs.Tasks.{telling};
+ghost use Rattle.store_session.specs.Endings.{IsDone, KeepsUnread};
+ghost use Rattle.store_session.specs.Tasks.{telling};
 
-use crate::status::Status;
 use host_port::Host;
+use store_session::Status;
 
 /// Prints a reply that is made already, of a store that is open. The input is not read.
 pub fn show<H: Host>(host: &mut H, reply: &[u8], refused: bool) -> Status

@@ -9,13 +9,12 @@ ghost use Rattle.plain_repository.specs.State.{State, empty};
 ghost use Rattle.plain_repository.specs.Events.{play};
 ghost use Rattle.plain_repository.specs.Store.{StandsForEvents, StandsForNoEvents};
 ghost use Rattle.store_session.specs.Session.{IsStoreOf};
-ghost use Rattle.store_runs.specs.Endings.{Ends, IsDone, IsFoundDamaged, IsKept, KeepsFile, KeepsUnread, NothingRose};
-ghost use Rattle.store_runs.specs.Tasks.{Task};
+ghost use Rattle.store_session.specs.Endings.{Ends, IsDone, IsFoundDamaged, IsKept, KeepsFile, KeepsUnread, NothingRose};
+ghost use Rattle.store_session.specs.Tasks.{Task};
 
-use crate::status::{Status, status_of};
 use host_port::Host;
 use std::alloc::Global;
-use store_session::Session;
+use store_session::{Session, Status, status_of};
 
 /// What is to be done over a store that is open.
 pub trait Work {

@@ -1,3 +1,5 @@
 pub mod Opening
 pub mod Session
 pub mod State
+pub mod Endings
+pub mod Tasks

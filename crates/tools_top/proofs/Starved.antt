@@ -10,9 +10,9 @@ use Rattle.op_form.specs.declared.event.Event.{Event}
 use Rattle.plain_repository.specs.State.{empty}
 use Rattle.plain_repository.specs.Store.{StandsForEvents}
 use Rattle.store_session.specs.Opening.{IsMounting}
-use Rattle.store_runs.specs.Endings.{IsHalted, IsKept}
-use Rattle.store_runs.specs.Tasks.{Task}
-use Rattle.store_runs.specs.declared.status.Status.TheVariants.{Memory}
+use Rattle.store_session.specs.Endings.{IsHalted, IsKept}
+use Rattle.store_session.specs.Tasks.{Task}
+use Rattle.store_session.specs.declared.status.Status.TheVariants.{Memory}
 use Rattle.store_replay.specs.Endings.{IsReplay}
 use Rattle.store_replay.specs.Printing.{said_of_all}
 use Rattle.store_runs.proofs.Headlines.{none_answered, opening_part, opening_moments, stopped}

@@ -5,7 +5,7 @@ use Rattle.plain_repository.specs.State.{State}
 use Rattle.script_items.specs.Items.{script}
 use Rattle.script_lang.specs.Reply.{printed}
 use Rattle.script_lang.specs.declared.reply.Reply.{Reply}
-use Rattle.store_runs.specs.Tasks.{Task, gated, serving_by, telling}
+use Rattle.store_session.specs.Tasks.{Task, gated, serving_by, telling}
 use Rattle.feature_writers.specs.Replies.{query_reply, blame_reply}
 use Rattle.tool_requests.specs.Denials.{refusal_by}
 use Rattle.tool_requests.specs.declared.guard.Guard as guards

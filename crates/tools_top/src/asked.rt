@@ -5,7 +5,7 @@ ghost use Rattle.op_form.specs.declared.event.Event.{Event};
 ghost use Rattle.plain_repository.specs.Answers.{is_refusal};
 ghost use Rattle.plain_repository.specs.State.{State};
 ghost use Rattle.store_session.specs.Session.{IsStoreOf};
-ghost use Rattle.store_runs.specs.Endings.{IsDone};
+ghost use Rattle.store_session.specs.Endings.{IsDone};
 ghost use Rattle.tools_top.specs.Tasks.{refusal_of, replying, same_reads, task_of};
 
 use feature_writers::{blame, query};
@@ -13,8 +13,8 @@ use host_port::Host;
 use repo_state::Repo;
 use script_lang::{Last, Reply, print_reply};
 use std::alloc::{AllocError, Global};
-use store_runs::{Gate, Status, Work, serve, show};
-use store_session::Session;
+use store_runs::{Gate, Work, serve, show};
+use store_session::{Session, Status};
 use tool_requests::{Guard, Tool};
 
 /// A guard as a gate.

@@ -4,5 +4,5 @@
 mod asked;
 mod top;
 
-pub use store_runs::Status;
+pub use store_session::Status;
 pub use top::tools;

@@ -8,7 +8,7 @@ ghost use Rattle.op_form.specs.declared.event.Event.{Event};
 ghost use Rattle.plain_repository.specs.State.{empty};
 ghost use Rattle.plain_repository.specs.Events.{play};
 ghost use Rattle.plain_repository.specs.Store.{StandsForEvents, StandsForNoEvents};
-ghost use Rattle.store_runs.specs.Endings.{Ends, NothingRose, IsKept, KeepsFile, KeepsUnread, IsFoundDamaged};
+ghost use Rattle.store_session.specs.Endings.{Ends, NothingRose, IsKept, KeepsFile, KeepsUnread, IsFoundDamaged};
 ghost use Rattle.store_replay.specs.Endings.{EndsPrinted, IsReplay, end_of_events};
 ghost use Rattle.tool_requests.specs.Words.{AskFor, AskForReplay, AreBad};
 ghost use Rattle.tool_requests.specs.declared.tool.Tool.{Tool};
@@ -18,7 +18,8 @@ use crate::asked::Asked;
 use host_port::Host;
 use std::alloc::Global;
 use store_replay::replay_store;
-use store_runs::{Status, over_store};
+use store_runs::over_store;
+use store_session::Status;
 use tool_requests::{Request, request_of};
 
 /// All that the program does: it opens the store and does what the words ask for. `query` and `blame` are answered by one

@@ -9,9 +9,9 @@ use Rattle.command_runs.specs.Crashes.{IsOpenedRunning}
 use Rattle.plain_repository.specs.State.{empty}
 use Rattle.plain_repository.specs.Events.{play}
 use Rattle.plain_repository.specs.Store.{StandsForEvents}
-use Rattle.store_runs.specs.declared.status.Status.TheVariants.{Memory}
+use Rattle.store_session.specs.declared.status.Status.TheVariants.{Memory}
 use Rattle.script_items.specs.declared.words.Request.{Request}
-use Rattle.store_runs.specs.Endings.{Ends, IsKept, KeepsUnread}
+use Rattle.store_session.specs.Endings.{Ends, IsKept, KeepsUnread}
 use Rattle.emf_top.specs.Tasks.{task_of}
 use Rattle.script_items.proofs.Asked.{same_request}
 use Rattle.store_runs.proofs.Headlines.{file_still}

@@ -11,7 +11,7 @@ use Rattle.plain_repository.specs.Store.{StandsForEvents}
 use Rattle.store_session.specs.declared.answered.SessionFault.TheVariants.{DiskFault}
 use Rattle.store_session.specs.Session.{IfMade, IsStoreOf, answered_as}
 use Rattle.store_session.proofs.Entering.{quiet_step}
-use Rattle.store_runs.specs.Tasks.{gated}
+use Rattle.store_session.specs.Tasks.{gated}
 use Rattle.store_runs.proofs.Script.{let_in, refused_by, refusal_added, refusal_moments, refusal_part, refusal_refused, refusal_said, refusal_state}
 use Rattle.store_runs.proofs.serving.answer_item.Goals as goal
 

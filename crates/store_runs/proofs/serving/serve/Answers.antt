@@ -1,8 +1,8 @@
 use Rattle.std.proofs.Common.{◌≡◌, true, false, subst}
 use Rattle.host_port.proofs.Course.{still_input}
 use Rattle.script_items.specs.Items.{script}
-use Rattle.store_runs.specs.Endings.{IsDone}
-use Rattle.store_runs.specs.Tasks.{Task, gated, serving_by}
+use Rattle.store_session.specs.Endings.{IsDone}
+use Rattle.store_session.specs.Tasks.{Task, gated, serving_by}
 use Rattle.store_runs.proofs.Starting.{from_start, nothing_done}
 use Rattle.store_runs.proofs.serving.serve.Goals as goal
 

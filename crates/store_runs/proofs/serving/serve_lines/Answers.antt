@@ -3,7 +3,7 @@ use Rattle.std.proofs.Common.{arith, ◌++◌, refl, sym, ◌∙◌}
 use Rattle.host_port.specs.Cut.{script_from}
 use Rattle.host_port.proofs.Course.{rose_second}
 use Rattle.plain_repository.specs.Lines.{takes_block}
-use Rattle.store_runs.specs.Tasks.{gated}
+use Rattle.store_session.specs.Tasks.{gated}
 use Rattle.store_runs.proofs.Script.{accepted_done, fault_done, gated_skipped, open_for, refused_done, serving_on, serving_starts, skipped_on}
 use Rattle.store_runs.proofs.Script.{status_failed, step_fault_done}
 use Rattle.store_runs.proofs.serving.serve_lines.Goals as goal

@@ -1,7 +1,7 @@
 use Rattle.std.proofs.Common.{◌-◌, ◌^◌, ◌++◌}
 use Rattle.host_port.specs.Cut.{script_from}
 use Rattle.plain_repository.specs.Lines.{takes_block}
-use Rattle.store_runs.specs.Tasks.{gated}
+use Rattle.store_session.specs.Tasks.{gated}
 use Rattle.store_runs.proofs.Script.{Serving}
 use Rattle.store_runs.proofs.serving.serve_lines.Given as goal
 

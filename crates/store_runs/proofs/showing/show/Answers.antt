@@ -1,6 +1,6 @@
 use Rattle.std.proofs.Common.{Bool, None, ap, refl}
 use Rattle.host_port.proofs.Course.{course_still}
-use Rattle.store_runs.specs.Tasks.{end_of, telling}
+use Rattle.store_session.specs.Tasks.{end_of, telling}
 use Rattle.store_runs.proofs.Printing.{accepted_told, refused_told, untold}
 use Rattle.store_runs.proofs.Starting.{at_start}
 use Rattle.store_runs.proofs.showing.show.Goals as goal

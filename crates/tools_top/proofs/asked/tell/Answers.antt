@@ -3,8 +3,8 @@ use Rattle.std.proofs.Common.{◌≡◌, ◌∙◌, sym, ap, subst}
 use Rattle.host_port.proofs.Course.{still_input}
 use Rattle.plain_repository.specs.Answers.{is_refusal}
 use Rattle.script_lang.specs.Reply.{printed}
-use Rattle.store_runs.specs.Endings.{IsDone}
-use Rattle.store_runs.specs.Tasks.{Task, telling}
+use Rattle.store_session.specs.Endings.{IsDone}
+use Rattle.store_session.specs.Tasks.{Task, telling}
 use Rattle.store_runs.proofs.Starting.{nothing_done}
 use Rattle.tools_top.specs.Tasks.{replying}
 use Rattle.tools_top.proofs.asked.tell.Goals as goal

@@ -10,8 +10,8 @@ use Rattle.plain_repository.specs.State.{empty}
 use Rattle.plain_repository.specs.Events.{play}
 use Rattle.plain_repository.specs.Store.{StandsForEvents}
 use Rattle.store_session.proofs.Reading.{is_long}
-use Rattle.store_runs.specs.declared.status.Status.TheVariants.{Memory}
-use Rattle.store_runs.specs.Endings.{Ends, IsKept, KeepsUnread}
+use Rattle.store_session.specs.declared.status.Status.TheVariants.{Memory}
+use Rattle.store_session.specs.Endings.{Ends, IsKept, KeepsUnread}
 use Rattle.store_runs.proofs.Headlines.{file_reads, file_still}
 use Rattle.store_replay.proofs.Endings.{ends_printed, no_read, no_words, when_disk, when_unsaid}
 use Rattle.tools_top.specs.Tasks.{task_of}

@@ -5,8 +5,8 @@ use Rattle.host_port.specs.Cut.{Item}
 use Rattle.host_port.proofs.Course.{still_input}
 use Rattle.script_items.specs.Items.{IsAnswered}
 use Rattle.script_items.proofs.Plain.{all_answered}
-use Rattle.store_runs.specs.Endings.{IsDone}
-use Rattle.store_runs.specs.Tasks.{telling}
+use Rattle.store_session.specs.Endings.{IsDone}
+use Rattle.store_session.specs.Tasks.{telling}
 use Rattle.store_runs.proofs.Starting.{nothing_done}
 use Rattle.emf_top.specs.Tasks.{task_of, filling}
 use Rattle.emf_top.proofs.Few.{few_workspaces}

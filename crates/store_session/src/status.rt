@@ -1,12 +1,12 @@
 //! How a run ends, as a status.
 ghost use Rattle.std.specs.Prelude.{◌≡◌};
-ghost use Rattle.store_runs.specs.Endings.{code_of, session_status};
-ghost use Rattle.store_runs.specs.Tasks.{input_status};
+ghost use Rattle.store_session.specs.Endings.{code_of, session_status};
+ghost use Rattle.store_session.specs.Tasks.{input_status};
 
+use crate::answered::SessionFault;
 use host_port::LineFault;
 use std::fmt;
 use std::fmt::{Display, Formatter};
-use store_session::SessionFault;
 
 /// How a run ended.
 #[derive(Clone, Copy, Debug, PartialEq, Eq)]
@@ -54,7 +54,7 @@ impl Status {
 /// What a program writes to standard error of a run that ended so, after its own name. Of the first two it writes nothing.
 impl Display for Status {
     ghost use Rattle.std.specs.Prelude.{Some};
-    ghost use Rattle.store_runs.specs.Endings.{text_of};
+    ghost use Rattle.store_session.specs.Endings.{text_of};
 
     ghost output = { λ status. Some (text_of status) };
 
@@ -86,7 +86,7 @@ pub fn status_of(fault: SessionFault) -> Status
 }
 
 /// The status of a run that ends by a fault of its input.
-pub(crate) fn status_of_input(fault: LineFault) -> Status
+pub fn status_of_input(fault: LineFault) -> Status
     ensures { result ≡ input_status fault }
 {
     match fault {

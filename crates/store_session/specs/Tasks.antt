@@ -9,8 +9,8 @@ use Rattle.plain_repository.specs.Lines.{is_skipped}
 use Rattle.plain_repository.specs.State.{State}
 use Rattle.plain_repository.specs.Events.{play}
 use Rattle.plain_repository.specs.Repository.{decide}
-use Rattle.store_runs.specs.declared.status.Status.{Status}
-use Rattle.store_runs.specs.declared.status.Status.TheVariants.{Accepted, Refused, ReadFault, Memory, Input}
+use Rattle.store_session.specs.declared.status.Status.{Status}
+use Rattle.store_session.specs.declared.status.Status.TheVariants.{Accepted, Refused, ReadFault, Memory, Input}
 
 -- What a run has to do: the answers that it gives, one after the other, each printed once its event is kept. Then how it ends
 -- where nothing fails, and whether it reads its input.

@@ -8,9 +8,9 @@ use Rattle.op_form.specs.declared.event.Event.{Event}
 use Rattle.plain_repository.specs.Store.{StandsForEvents, StandsForNoEvents, IsDamaged}
 use Rattle.store_session.specs.declared.answered.SessionFault.{SessionFault}
 use Rattle.store_session.specs.declared.answered.SessionFault.TheVariants as session
-use Rattle.store_runs.specs.Tasks.{Task}
-use Rattle.store_runs.specs.declared.status.Status.{Status}
-use Rattle.store_runs.specs.declared.status.Status.TheVariants.{Accepted, Refused, BadWords, ReadFault, WriteFault, DiskFault, Damaged, Memory, Input}
+use Rattle.store_session.specs.Tasks.{Task}
+use Rattle.store_session.specs.declared.status.Status.{Status}
+use Rattle.store_session.specs.declared.status.Status.TheVariants.{Accepted, Refused, BadWords, ReadFault, WriteFault, DiskFault, Damaged, Memory, Input}
 
 -- all of the replies were printed, and the file stands for all of the events
 pub record IsServed (task : Task) (first : List Event) (before now : Told) : Type 0 where
