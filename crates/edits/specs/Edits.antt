@@ -6,7 +6,7 @@ use Rattle.std.specs.FinMap.{get}
 use Rattle.finite_maps.specs.Maps.{is_below}
 use Rattle.ecore_meta.specs.Meta.{Meta, class_named, feature_named}
 use Rattle.ecore_meta.specs.declared.meta.Kind.{Kind}
-use Rattle.ecore_meta.specs.declared.meta.Kind.TheVariants.{Attr, AttrMany, Bounded, Free}
+use Rattle.ecore_meta.specs.declared.meta.Kind.TheVariants.{Attr, AttrMany, Bounded, Free, Contains, Container, Skip}
 use Rattle.ecore_meta.specs.declared.meta.Scalar.{Scalar}
 use Rattle.ecore_meta.specs.declared.meta.Scalar.TheVariants as types
 use Rattle.ecore_meta.specs.declared.meta.Value.{Value}
@@ -160,9 +160,13 @@ refer_effect meta m a f (Some b) =
 -- names its target.
 abbrev pub set_effect : Reading → Meta → State → IdBytes → ℕ → Kind → List ℕ → Result Effect EditFault
 set_effect reading meta m e f (Attr scalar default) text = put_effect meta e f (reading scalar text)
+set_effect reading meta m e f (AttrMany scalar unique) text = Err WrongKind
 set_effect reading meta m e f (Bounded target opposite) text =
     if not (holds_one meta f) then Err WrongKind else refer_effect meta m e f (target_in (reading types.Text text))
-set_effect reading meta m e f kind text = Err WrongKind
+set_effect reading meta m e f (Free target opposite) text = Err WrongKind
+set_effect reading meta m e f (Contains target opposite) text = Err WrongKind
+set_effect reading meta m e f (Container target opposite) text = Err WrongKind
+set_effect reading meta m e f Skip text = Err WrongKind
 
 -- the feature is an attribute or a plain reference
 abbrev pub unset_effect : IdBytes → ℕ → Kind → Result Effect EditFault
@@ -170,7 +174,9 @@ unset_effect e f (Attr scalar default) = Ok (Puts e f None)
 unset_effect e f (AttrMany scalar unique) = Ok (Clears e f)
 unset_effect e f (Bounded target opposite) = Ok (Forgets e f)
 unset_effect e f (Free target opposite) = Ok (Forgets e f)
-unset_effect e f kind = Err WrongKind
+unset_effect e f (Contains target opposite) = Err WrongKind
+unset_effect e f (Container target opposite) = Err WrongKind
+unset_effect e f Skip = Err WrongKind
 
 -- What is given, where a list of values takes one more. The value is not held yet where each is held once. There is room for it
 -- under the upper bound, and fewer than most_entries values are there.
@@ -188,25 +194,40 @@ insert_effect e f unique upper vs k (Some v) = accepts unique upper vs v (Insert
 
 -- the feature is a many-valued attribute, the index is one of its values or their end, and the text is a value of its type
 abbrev pub add_effect : Reading → Meta → State → IdBytes → ℕ → Kind → Option ℕ → List ℕ → Result Effect EditFault
+add_effect reading meta m e f (Attr scalar default) at text = Err WrongKind
 add_effect reading meta m e f (AttrMany scalar unique) at text =
     let vs = values_at m e f in
     let k = unwrap_or at (length vs) in
     if not (nat_le k (length vs)) then Err NoEntry
     else insert_effect e f unique (upper_of meta f) vs k (reading scalar text)
-add_effect reading meta m e f kind at text = Err WrongKind
+add_effect reading meta m e f (Bounded target opposite) at text = Err WrongKind
+add_effect reading meta m e f (Free target opposite) at text = Err WrongKind
+add_effect reading meta m e f (Contains target opposite) at text = Err WrongKind
+add_effect reading meta m e f (Container target opposite) at text = Err WrongKind
+add_effect reading meta m e f Skip at text = Err WrongKind
 
 -- the feature is a many-valued attribute, and the index that of a value
 abbrev pub remove_effect : State → IdBytes → ℕ → Kind → ℕ → Result Effect EditFault
+remove_effect m e f (Attr scalar default) k = Err WrongKind
 remove_effect m e f (AttrMany scalar unique) k = if not (nat_lt k (length (values_at m e f))) then Err NoEntry else Ok (Removes e f k)
-remove_effect m e f kind k = Err WrongKind
+remove_effect m e f (Bounded target opposite) k = Err WrongKind
+remove_effect m e f (Free target opposite) k = Err WrongKind
+remove_effect m e f (Contains target opposite) k = Err WrongKind
+remove_effect m e f (Container target opposite) k = Err WrongKind
+remove_effect m e f Skip k = Err WrongKind
 
 -- the feature is a many-valued attribute, and both indices those of values
 abbrev pub shift_effect : State → IdBytes → ℕ → Kind → ℕ → ℕ → Result Effect EditFault
+shift_effect m e f (Attr scalar default) from to = Err WrongKind
 shift_effect m e f (AttrMany scalar unique) from to =
     if not (nat_lt from (length (values_at m e f))) then Err NoEntry
     else if not (nat_lt to (length (values_at m e f))) then Err NoEntry
     else Ok (Shifts e f from to)
-shift_effect m e f kind from to = Err WrongKind
+shift_effect m e f (Bounded target opposite) from to = Err WrongKind
+shift_effect m e f (Free target opposite) from to = Err WrongKind
+shift_effect m e f (Contains target opposite) from to = Err WrongKind
+shift_effect m e f (Container target opposite) from to = Err WrongKind
+shift_effect m e f Skip from to = Err WrongKind
 
 -- a plain reference whose upper bound isn't 1
 abbrev pub is_listed : Meta → ℕ → Kind → Bool

@@ -1,7 +1,7 @@
 //! Two operations in the other order.
 ghost use Rattle.std.specs.Prelude.{◌≡◌, ◌∷◌, [], false, OnOk, Some};
 ghost use Rattle.model_state.specs.State.{State};
-ghost use Rattle.model_state.specs.Good.{Good, Sound};
+ghost use Rattle.model_state.specs.Good.{Good};
 ghost use Rattle.model_state.specs.Packages.{fold_package};
 ghost use Rattle.model_state.specs.Steps.{fold};
 ghost use Rattle.footprint.specs.Interference.{interferes};
@@ -13,7 +13,6 @@ use std::alloc::AllocError;
 
 /// Takes the steps, which can be taken.
 fn take_steps<M: Change>(model: &mut M, meta: &Metamodel, steps: &[Step]) -> Result<(), AllocError>
-    requires sound { Sound meta.now }
     requires good { Good meta.now (M.state model.old) }
     ensures done { OnOk result (fold meta.now (M.state model.old) steps.now ≡ Some (M.state model.new)) }
     ensures good { Good meta.now (M.state model.new) }
@@ -32,7 +31,6 @@ pub fn exchange<M: Change>(
     first: &Operation,
     second: &Operation,
 ) -> Result<(), AllocError>
-    requires sound { Sound meta.now }
     requires good { Good meta.now (M.state model.old) }
     requires apart { interferes meta.now first.now second.now ≡ false }
     requires possible { (n : State) × (fold_package meta.now (M.state model.old) (first.now ∷ second.now ∷ []) ≡ Some n) }
@@ -40,6 +38,7 @@ pub fn exchange<M: Change>(
     ensures swapped { OnOk result (fold_package meta.now (M.state model.old) (second.now ∷ first.now ∷ []) ≡ Some (M.state model.new)) }
     ensures good { Good meta.now (M.state model.new) }
 {
+    meta.recall_soundness();
     take_steps(model, meta, second.steps())?;
     take_steps(model, meta, first.steps())?;
     Ok(())

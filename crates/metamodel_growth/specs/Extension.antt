@@ -93,13 +93,19 @@ opposite_same o n (Some f) None = false
 -- a kind of each with the same parts, by names
 abbrev pub kind_same : Meta → Meta → Kind → Kind → Bool
 kind_same o n (Attr s default) (Attr t other) = scalar_same o n s t && option_eq value_eq default other
+kind_same o n (Attr s default) l = false
 kind_same o n (AttrMany s unique) (AttrMany t other) = scalar_same o n s t && flag_eq unique other
+kind_same o n (AttrMany s unique) l = false
 kind_same o n (Bounded c f) (Bounded d g) = class_same o n c d && opposite_same o n f g
+kind_same o n (Bounded c f) l = false
 kind_same o n (Free c f) (Free d g) = class_same o n c d && opposite_same o n f g
+kind_same o n (Free c f) l = false
 kind_same o n (Contains c f) (Contains d g) = class_same o n c d && opposite_same o n f g
+kind_same o n (Contains c f) l = false
 kind_same o n (Container c f) (Container d g) = class_same o n c d && feature_same o n f g
+kind_same o n (Container c f) l = false
 kind_same o n Skip Skip = true
-kind_same o n k l = false
+kind_same o n Skip l = false
 
 -- the first list is how the second begins
 abbrev pub begins : List EnumLiteral → List EnumLiteral → Bool

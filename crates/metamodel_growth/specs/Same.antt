@@ -29,13 +29,19 @@ scalar_eq s t = false
 -- the same kind with the same parts, by number
 abbrev pub kind_eq : Kind → Kind → Bool
 kind_eq (Attr s default) (Attr t other) = scalar_eq s t && option_eq value_eq default other
+kind_eq (Attr s default) l = false
 kind_eq (AttrMany s unique) (AttrMany t other) = scalar_eq s t && flag_eq unique other
+kind_eq (AttrMany s unique) l = false
 kind_eq (Bounded c f) (Bounded d g) = nat_eq c d && option_eq nat_eq f g
+kind_eq (Bounded c f) l = false
 kind_eq (Free c f) (Free d g) = nat_eq c d && option_eq nat_eq f g
+kind_eq (Free c f) l = false
 kind_eq (Contains c f) (Contains d g) = nat_eq c d && option_eq nat_eq f g
+kind_eq (Contains c f) l = false
 kind_eq (Container c f) (Container d g) = nat_eq c d && nat_eq f g
+kind_eq (Container c f) l = false
 kind_eq Skip Skip = true
-kind_eq k l = false
+kind_eq Skip l = false
 
 -- the same owner, name, bounds and kind
 abbrev pub feature_eq : Feature → Feature → Bool

@@ -1,7 +1,7 @@
 //! A list of steps, taken whole or not at all.
 ghost use Rattle.std.specs.Prelude.{◌≡◌, OnOk, OnErr, IfErr, Some};
 ghost use Rattle.model_state.specs.Faults.{IsApplyFault};
-ghost use Rattle.model_state.specs.Good.{Good, Sound};
+ghost use Rattle.model_state.specs.Good.{Good};
 ghost use Rattle.model_state.specs.Steps.{fold, first_stop};
 
 use crate::Graph;
@@ -13,7 +13,6 @@ impl Graph {
     /// Takes all the steps, or none where one can't be taken. This takes a copy of the model; where that finds no memory the
     /// place in the error is 0.
     pub fn apply_all(&mut self, meta: &Metamodel, steps: &[Step]) -> Result<(), ApplyFault>
-        requires sound { Sound meta.now }
         requires good { Good meta.now self.old }
         ensures done { OnOk result (fold meta.now self.old steps.now ≡ Some self.new) }
         ensures unchanged { OnErr result (self.new ≡ self.old) }

@@ -105,28 +105,44 @@ step_writes meta (Shift e f from to) = OfAttr e f ∷ []
 -- the elements whose class a step reads
 abbrev pub kinds_read : Step → List IdBytes
 kinds_read (Put e f old new) = e ∷ []
+kinds_read (Ins e f at v) = e ∷ []
+kinds_read (Del e f at v) = e ∷ []
+kinds_read (Shift e f from to) = e ∷ []
 kinds_read (Link a f ra b rb) = a ∷ b ∷ []
 kinds_read (Unlink a f ra b rb) = a ∷ b ∷ []
+kinds_read (RerankRow a f b old new) = a ∷ b ∷ []
 kinds_read (New e class place rank) = parents_of place
 kinds_read (Gone e class place rank) = parents_of place
 kinds_read (Move e from from_rank to to_rank above_from above_to) = e ∷ (parents_of from ++ parents_of to)
-kinds_read (Ins e f at v) = e ∷ []
-kinds_read (Del e f at v) = e ∷ []
-kinds_read (RerankRow a f b old new) = a ∷ b ∷ []
-kinds_read (Shift e f from to) = e ∷ []
-kinds_read s = []
+kinds_read (RerankPlace e old new) = []
 
 -- the elements whose class a step writes
 abbrev pub kinds_written : Step → List IdBytes
+kinds_written (Put e f old new) = []
+kinds_written (Ins e f at v) = []
+kinds_written (Del e f at v) = []
+kinds_written (Shift e f from to) = []
+kinds_written (Link a f ra b rb) = []
+kinds_written (Unlink a f ra b rb) = []
+kinds_written (RerankRow a f b old new) = []
 kinds_written (New e class place rank) = e ∷ []
 kinds_written (Gone e class place rank) = e ∷ []
-kinds_written s = []
+kinds_written (Move e from from_rank to to_rank above_from above_to) = []
+kinds_written (RerankPlace e old new) = []
 
 -- the other cells that it reads
 abbrev pub others_read : Step → List Cell
-others_read (RerankPlace e old new) = OfPlace e ∷ []
+others_read (Put e f old new) = []
+others_read (Ins e f at v) = []
+others_read (Del e f at v) = []
+others_read (Shift e f from to) = []
+others_read (Link a f ra b rb) = []
+others_read (Unlink a f ra b rb) = []
+others_read (RerankRow a f b old new) = []
+others_read (New e class place rank) = []
+others_read (Gone e class place rank) = []
 others_read (Move e from from_rank to to_rank above_from above_to) = map OfPlace (above_from ++ above_to)
-others_read s = []
+others_read (RerankPlace e old new) = OfPlace e ∷ []
 
 -- the cells that a step reads
 abbrev pub step_reads : Step → List Cell

@@ -47,8 +47,23 @@ effect s (Signed ws author moment message) = with_commit ws (Some (record { auth
 
 -- the metamodel that an event leaves, where there is one before it
 abbrev pub meta_after : Meta → Event → Meta
+meta_after meta (Init text) = meta
+meta_after meta (Checkout version branch) = meta
+meta_after meta (Edit ws operations) = meta
+meta_after meta (Begin ws name) = meta
+meta_after meta (End ws) = meta
+meta_after meta (Undo ws) = meta
+meta_after meta (Discard ws) = meta
+meta_after meta (Tidy ws) = meta
+meta_after meta (Commit ws message) = meta
+meta_after meta (Branch ws name) = meta
+meta_after meta (Tag name version) = meta
+meta_after meta (Update ws letters) = meta
+meta_after meta (Merge ws branch letters) = meta
+meta_after meta (Drop ws) = meta
 meta_after meta (Evolve text) = grown text meta
-meta_after meta event = meta
+meta_after meta Upgrade = meta
+meta_after meta (Signed ws author moment message) = meta
 
 -- is the event one of that workspace
 abbrev pub is_of : ℕ → Event → Bool
@@ -113,10 +128,23 @@ playable_with s (Some meta) (Init text) = false
 
 -- Does the event suit a store that is upgraded, or one that is not? A version is signed in the one and not in the other.
 abbrev pub suits : Bool → Event → Bool
+suits upgraded (Init text) = true
+suits upgraded (Checkout version branch) = true
+suits upgraded (Edit ws operations) = true
+suits upgraded (Begin ws name) = true
+suits upgraded (End ws) = true
+suits upgraded (Undo ws) = true
+suits upgraded (Discard ws) = true
+suits upgraded (Tidy ws) = true
 suits upgraded (Commit ws message) = not upgraded
+suits upgraded (Branch ws name) = true
+suits upgraded (Tag name version) = true
+suits upgraded (Update ws letters) = true
+suits upgraded (Merge ws branch letters) = true
+suits upgraded (Drop ws) = true
+suits upgraded (Evolve text) = true
 suits upgraded Upgrade = not upgraded
 suits upgraded (Signed ws author moment message) = upgraded
-suits upgraded event = true
 
 -- could the event be made on this state
 unfoldable pub playable : State → Event → Bool

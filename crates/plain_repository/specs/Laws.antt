@@ -23,7 +23,8 @@ use Rattle.history_tree.specs.Found.{branch_named, tag_named}
 use Rattle.history_tree.specs.States.{state_folded, state_of}
 use Rattle.history_tree.specs.Whole.{IsWhole}
 use Rattle.op_form.specs.declared.event.Event.{Event}
-use Rattle.op_form.specs.declared.event.Event.TheVariants.{Init, Checkout, Edit, Undo, Tag as MadeTag, Evolve, Upgrade, Signed}
+use Rattle.op_form.specs.declared.event.Event.TheVariants.{Init, Checkout, Edit, Begin, End, Undo, Discard, Tidy, Commit}
+use Rattle.op_form.specs.declared.event.Event.TheVariants.{Branch as MadeBranch, Tag as MadeTag, Update, Merge, Drop, Evolve, Upgrade, Signed}
 use Rattle.script_lang.specs.declared.command.Spec.{Spec}
 use Rattle.script_lang.specs.declared.command.Command.{Command}
 use Rattle.script_lang.specs.declared.command.Command.TheVariants as commands
@@ -336,8 +337,23 @@ pub record AddsSuch (Such : Version → Type 0) (before after : History) : Type 
 
 -- is the event Upgrade
 abbrev pub is_upgrade : Event → Bool
+is_upgrade (Init text) = false
+is_upgrade (Checkout version branch) = false
+is_upgrade (Edit ws operations) = false
+is_upgrade (Begin ws name) = false
+is_upgrade (End ws) = false
+is_upgrade (Undo ws) = false
+is_upgrade (Discard ws) = false
+is_upgrade (Tidy ws) = false
+is_upgrade (Commit ws message) = false
+is_upgrade (MadeBranch ws name) = false
+is_upgrade (MadeTag name version) = false
+is_upgrade (Update ws letters) = false
+is_upgrade (Merge ws branch letters) = false
+is_upgrade (Drop ws) = false
+is_upgrade (Evolve text) = false
 is_upgrade Upgrade = true
-is_upgrade event = false
+is_upgrade (Signed ws author moment message) = false
 
 -- a store that is upgraded stays so, and no other event upgrades one
 abbrev pub UpgradesStay : Type 0
@@ -360,9 +376,23 @@ SignedSinceUpgrade = (before after : List Event) → IsTrue (are_playable empty 
 
 -- is the event one that came with signatures
 abbrev pub is_of_signing : Event → Bool
+is_of_signing (Init text) = false
+is_of_signing (Checkout version branch) = false
+is_of_signing (Edit ws operations) = false
+is_of_signing (Begin ws name) = false
+is_of_signing (End ws) = false
+is_of_signing (Undo ws) = false
+is_of_signing (Discard ws) = false
+is_of_signing (Tidy ws) = false
+is_of_signing (Commit ws message) = false
+is_of_signing (MadeBranch ws name) = false
+is_of_signing (MadeTag name version) = false
+is_of_signing (Update ws letters) = false
+is_of_signing (Merge ws branch letters) = false
+is_of_signing (Drop ws) = false
+is_of_signing (Evolve text) = false
 is_of_signing Upgrade = true
 is_of_signing (Signed ws author moment message) = true
-is_of_signing event = false
 
 -- what is asked of an event beside that it suits the store
 abbrev pub is_asked : State → Event → Bool

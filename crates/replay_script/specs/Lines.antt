@@ -53,9 +53,22 @@ words_again h (Signed ws author moment message) = codes "signed" ∷ decimal ws 
 -- the text of its block: the metamodel as it was given, or the package's bytes in hexadecimal digits of lower case, as one line
 abbrev pub block_again : Event → Option (List ℕ)
 block_again (Init text) = Some text
-block_again (Evolve text) = Some text
+block_again (Checkout version branch) = None
 block_again (Edit ws operations) = Some (encode_lower (package_encoding operations) ++ (10 ∷ []))
-block_again event = None
+block_again (Begin ws name) = None
+block_again (End ws) = None
+block_again (Undo ws) = None
+block_again (Discard ws) = None
+block_again (Tidy ws) = None
+block_again (Commit ws message) = None
+block_again (Branch ws name) = None
+block_again (Tag name version) = None
+block_again (Update ws letters) = None
+block_again (Merge ws branch letters) = None
+block_again (Drop ws) = None
+block_again (Evolve text) = Some text
+block_again Upgrade = None
+block_again (Signed ws author moment message) = None
 
 -- the line and its block
 abbrev pub item_again : History → Event → Item

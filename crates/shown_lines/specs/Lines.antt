@@ -5,7 +5,7 @@ use Rattle.std.specs.Option.{option_map_or}
 use Rattle.ecore_meta.specs.Meta.{Meta, name_at}
 use Rattle.ecore_meta.specs.Typing.{kind_of}
 use Rattle.ecore_meta.specs.declared.meta.Kind.{Kind}
-use Rattle.ecore_meta.specs.declared.meta.Kind.TheVariants.{Attr, AttrMany}
+use Rattle.ecore_meta.specs.declared.meta.Kind.TheVariants.{Attr, AttrMany, Bounded, Free, Contains, Container, Skip}
 use Rattle.ecore_meta.specs.declared.meta.Value.{Value}
 use Rattle.emfjson_io.specs.Values.{value_text}
 use Rattle.model_state.specs.Packages.{steps_of}
@@ -40,7 +40,11 @@ feature_name meta f = name_at meta.features f
 abbrev pub text_of : Meta → Kind → Value → List ℕ
 text_of meta (Attr scalar default) v = value_text meta scalar v
 text_of meta (AttrMany scalar unique) v = value_text meta scalar v
-text_of meta k v = []
+text_of meta (Bounded target opposite) v = []
+text_of meta (Free target opposite) v = []
+text_of meta (Contains target opposite) v = []
+text_of meta (Container target opposite) v = []
+text_of meta Skip v = []
 
 -- the text of a value of the feature of that number
 abbrev pub value_word : Meta → ℕ → Value → List ℕ

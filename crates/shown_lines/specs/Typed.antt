@@ -3,7 +3,7 @@ use Rattle.std.specs.Prelude.{◌≡◌, ℕ, ◌<◌, Bool, true, false, List, 
 use Rattle.ecore_meta.specs.Meta.{Meta}
 use Rattle.ecore_meta.specs.Typing.{fits, kind_of}
 use Rattle.ecore_meta.specs.declared.meta.Kind.{Kind}
-use Rattle.ecore_meta.specs.declared.meta.Kind.TheVariants.{Attr, AttrMany}
+use Rattle.ecore_meta.specs.declared.meta.Kind.TheVariants.{Attr, AttrMany, Bounded, Free, Contains, Container, Skip}
 use Rattle.ecore_meta.specs.declared.meta.Value.{Value}
 use Rattle.model_state.specs.Packages.{steps_of}
 use Rattle.model_state.specs.declared.operation.Operation.{Operation}
@@ -24,7 +24,11 @@ IsFeature meta f = f < length meta.features
 abbrev pub is_value : Meta → Kind → Value → Bool
 is_value meta (Attr scalar default) v = fits meta scalar v
 is_value meta (AttrMany scalar unique) v = fits meta scalar v
-is_value meta k v = false
+is_value meta (Bounded target opposite) v = false
+is_value meta (Free target opposite) v = false
+is_value meta (Contains target opposite) v = false
+is_value meta (Container target opposite) v = false
+is_value meta Skip v = false
 
 -- a value of the feature of that number
 abbrev pub IsValue : Meta → ℕ → Value → Type 0

@@ -41,8 +41,13 @@ held_in meta m e f = held_count m e f (kind_of meta f)
 
 -- the lower bound of a feature; 0 for those that are skipped, so that they are never short
 abbrev pub lower_in : Kind → ℕ → ℕ
+lower_in (Attr scalar default) lower = lower
+lower_in (AttrMany scalar unique) lower = lower
+lower_in (Bounded target opposite) lower = lower
+lower_in (Free target opposite) lower = lower
+lower_in (Contains target opposite) lower = lower
+lower_in (Container target opposite) lower = lower
 lower_in Skip lower = 0
-lower_in k lower = lower
 
 -- the lower bound of the feature of that number
 abbrev pub lower_of : Meta → ℕ → ℕ

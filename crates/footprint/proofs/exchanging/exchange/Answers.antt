@@ -9,7 +9,7 @@ returns-clause-done g c =
     let meta = c.args.meta.now in
     let m = g.M.Look.state c.args.model.now in
     let n = g.M.Look.state c.take_steps.new.model in
-    second_first meta c.requires.sound c.args.first.now c.args.second.now m n
+    second_first meta c.recall_soundness.ensures c.args.first.now c.args.second.now m n
     (g.M.Look.state c.take_steps-2.new.model) c.requires.good c.requires.apart c.requires.possible
     (ap (fold meta m) (sym c.steps.ensures) ∙ c.in_ok-take_steps.ensures.done)
     (ap (fold meta n) (sym c.steps-2.ensures) ∙ c.in_ok-take_steps-2.ensures.done)

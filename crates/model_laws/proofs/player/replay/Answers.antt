@@ -21,8 +21,7 @@ loop-at-preserved g c =
     let so_far : take (i + 1) steps ≡ take i steps ++ s ∷ [] = take_more steps i s inside ∙ ap (λ x. take i steps ++ x ∷ []) (sym c.index-steps-at.is) in
     let next : drop i steps ≡ s ∷ drop (i + 1) steps = rw (add-one, drop-cons steps i s) (ap (λ x. x ∷ drop (suc i) steps) (sym c.index-steps-at.is)) in
     record {
-      sound = c.loop-at.invariant.sound;
-      good = subst (λ x. Good meta x) (sym done) (undoes meta c.loop-at.invariant.sound m c.loop-at.invariant.good s can).keeps;
+      good = subst (λ x. Good meta x) (sym done) (undoes meta c.recall_soundness.ensures m c.loop-at.invariant.good s can).keeps;
       taken = ap (fold meta start) so_far ∙ fold_last meta start m (take i steps) s c.loop-at.invariant.taken can ∙ ap Some (sym done);
       rest = ap (λ x. fold meta x (drop (i + 1) steps)) done ∙ sym (fold_more meta m s (drop (i + 1) steps) can) ∙ ap (fold meta m) (sym next)
           ∙ c.loop-at.invariant.rest;
