@@ -110,7 +110,6 @@ pub fn link_steps<L: Look>(
     b: &Id,
     at: Option<u32>,
 ) -> Result<List<Step>, LinkFault>
-    requires sound { Sound meta.now }
     requires good { Good meta.now (L.state look.now) }
     requires reference { IsReference meta.now (L.state look.now) a.now f }
     requires many { holds_one meta.now f ≡ false }
@@ -119,6 +118,7 @@ pub fn link_steps<L: Look>(
     ensures taken { OnOk result (link_refusal meta.now (L.state look.now) a.now f b.now at ≡ None) }
     ensures refused { IfErr result (λ e. IsRefusal (link_refusal meta.now (L.state look.now) a.now f b.now at) e) }
 {
+    meta.recall_soundness();
     if !may_link(meta, look.class(a), f, look.class(b)) {
         return Err(LinkFault::WrongType);
     }

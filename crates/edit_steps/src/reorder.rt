@@ -81,13 +81,13 @@ pub fn reorder_steps<L: Look>(
     b: &Id,
     at: u32,
 ) -> Result<List<Step>, LinkFault>
-    requires sound { Sound meta.now }
     requires good { Good meta.now (L.state look.now) }
     requires reference { IsReference meta.now (L.state look.now) a.now f }
     ensures made { IfOk result (λ s. s ≡ reorder_made (L.state look.now).row a.now f b.now at) }
     ensures taken { OnOk result (reorder_refusal (L.state look.now) a.now f b.now at ≡ None) }
     ensures refused { IfErr result (λ e. IsRefusal (reorder_refusal (L.state look.now) a.now f b.now at) e) }
 {
+    meta.recall_soundness();
     // Only the contract needs it.
     let _meta = meta;
     let Some(old) = look.row(a, f, b) else {

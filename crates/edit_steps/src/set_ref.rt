@@ -55,7 +55,6 @@ pub fn set_ref_steps<L: Look>(
     f: u32,
     b: &Id,
 ) -> Result<List<Step>, LinkFault>
-    requires sound { Sound meta.now }
     requires good { Good meta.now (L.state look.now) }
     requires reference { IsReference meta.now (L.state look.now) a.now f }
     requires one { holds_one meta.now f ≡ true }
@@ -64,6 +63,7 @@ pub fn set_ref_steps<L: Look>(
     ensures taken { OnOk result (set_ref_refusal meta.now (L.state look.now) a.now f b.now ≡ None) }
     ensures refused { IfErr result (λ e. IsRefusal (set_ref_refusal meta.now (L.state look.now) a.now f b.now) e) }
 {
+    meta.recall_soundness();
     if !may_link(meta, look.class(a), f, look.class(b)) {
         return Err(LinkFault::WrongType);
     }

@@ -104,13 +104,13 @@ pub fn unlink_steps<L: Look>(
     f: u32,
     b: &Id,
 ) -> Result<List<Step>, LinkFault>
-    requires sound { Sound meta.now }
     requires good { Good meta.now (L.state look.now) }
     requires reference { IsReference meta.now (L.state look.now) a.now f }
     ensures made { IfOk result (λ s. s ≡ unlink_made meta.now (L.state look.now).row a.now f b.now) }
     ensures taken { OnOk result (unlink_refusal (L.state look.now) a.now f b.now ≡ None) }
     ensures refused { IfErr result (λ e. IsRefusal (unlink_refusal (L.state look.now) a.now f b.now) e) }
 {
+    meta.recall_soundness();
     let Some(ra) = look.row(a, f, b) else {
         return Err(LinkFault::NoEntry);
     };

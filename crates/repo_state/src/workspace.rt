@@ -414,7 +414,6 @@ impl Workspace {
         meta: &Metamodel,
         history: &History,
     ) -> Result<Working, AllocError>
-        requires sound { Sound meta.now }
         requires there { self.now.base < length history.now.history.versions }
         requires base { is_some (state_folded meta.now history.now.history self.now.base) ≡ true }
         requires leads { is_some (folded meta.now history.now.history (plain_of self.now)) ≡ true }
@@ -426,6 +425,7 @@ impl Workspace {
         ensures uses { Uses pool.old pool.new cache.old cache.new }
         ensures forms { AreForms (Some meta.now) history.now.history (stands pool.new cache.new) }
     {
+        meta.recall_soundness();
         let mut model = state_at(alloc, cache, pool, meta, history, self.base)?;
         match self.retake(&mut model, meta) {
             Ok(()) => Ok(model),

@@ -54,13 +54,13 @@ pub fn encode_state<L: Look>(
     look: &L,
     meta: &Metamodel,
 ) -> Result<Option<Vec<u8>>, AllocError>
-    requires sound { Sound meta.now }
     requires good { Good meta.now (L.state look.now) }
     requires spelled { IsSpelled meta.now (L.state look.now) }
     ensures bytes { IfOk result (λ found. IfSome found (λ bytes. bytes.items ≡ state_encoding meta.now (L.state look.now))) }
     ensures form { IfOk result (λ found. IfSome found (λ bytes. IsStateForm meta.now (L.state look.now) bytes.items)) }
     ensures none { IfOk result (λ found. IfNone found (2 ^ 32 ≤ state_size meta.now (L.state look.now))) }
 {
+    meta.recall_soundness();
     let steps = as_steps(alloc, look, meta)?;
     if steps.len() > u32::MAX as usize {
         return Ok(None);

@@ -71,11 +71,11 @@ pub fn as_steps<L: Look>(
     look: &L,
     meta: &Metamodel,
 ) -> Result<List<Step>, AllocError>
-    requires sound { Sound meta.now }
     requires good { Good meta.now (L.state look.now) }
     ensures steps { IfOk result (λ l. l ≡ as_steps meta.now (L.state look.now)) }
     ensures build { IfOk result (λ l. fold meta.now nothing l ≡ Some (L.state look.now)) }
 {
+    meta.recall_soundness();
     let elements = elements(alloc, look, meta)?;
     let mut steps = List::new(alloc);
     build(alloc, look, meta, elements.as_slice(), &mut steps)?;

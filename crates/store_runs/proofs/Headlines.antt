@@ -21,7 +21,8 @@ use Rattle.store_session.specs.Opening.{IsMounting}
 use Rattle.store_session.proofs.Reading.{is_long, reads_same}
 use Rattle.store_session.specs.declared.status.Status.{Status}
 use Rattle.store_session.specs.declared.status.Status.TheVariants.{Accepted, Refused, BadWords, ReadFault, WriteFault, DiskFault, Damaged, Memory, Input}
-use Rattle.store_session.specs.Endings.{Ends, IsDone, NothingRose, KeepsFile, IsFoundDamaged, IsUnsaid, IsUnopened, IsUnanswered, IsHalted, IsKept, session_status}
+use Rattle.store_session.specs.Endings.{Ends, IsDone, NothingRose, KeepsFile, IsFoundDamaged, IsUnsaid, IsUnopened, IsUnanswered, IsHalted, IsKept}
+use Rattle.store_session.specs.Endings.{session_status}
 use Rattle.store_session.specs.Tasks.{Task}
 
 -- no call at all leaves the file

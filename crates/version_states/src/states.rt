@@ -37,12 +37,12 @@ pub fn steps_out(package: Package) -> CompactList<Step>
 
 /// Takes the steps one by one, up to the first that can't be taken, whose fault it gives.
 pub fn take_steps(model: &mut Working, meta: &Metamodel, steps: &[Step]) -> Result<(), StepFault>
-    requires sound { Sound meta.now }
     requires good { Good meta.now model.old }
     ensures done { OnOk result (fold meta.now model.old steps.now ≡ Some model.new) }
     ensures cannot { IfErr result (λ e. IsFault (fault_along meta.now model.old steps.now) e) }
     ensures good { Good meta.now model.new }
 {
+    meta.recall_soundness();
     match model.replay(meta, steps) {
         Ok(()) => Ok(()),
         Err(stop) => Err(stop.fault),
@@ -55,12 +55,12 @@ pub fn follow(
     meta: &Metamodel,
     operations: &[Operation],
 ) -> Result<(), StepFault>
-    requires sound { Sound meta.now }
     requires good { Good meta.now model.old }
     ensures done { OnOk result (fold_package meta.now model.old operations.now ≡ Some model.new) }
     ensures cannot { IfErr result (λ e. e ≢ StepFault.Memory → fold_package meta.now model.old operations.now ≡ None) }
     ensures good { Good meta.now model.new }
 {
+    meta.recall_soundness();
     for operation in operations {
         take_steps(model, meta, operation.steps())?;
     }
@@ -73,12 +73,12 @@ pub fn follow_all(
     meta: &Metamodel,
     operations: &[Operation],
 ) -> Result<(), AllocError>
-    requires sound { Sound meta.now }
     requires good { Good meta.now model.old }
     requires leads { is_some (fold_package meta.now model.old operations.now) ≡ true }
     ensures done { OnOk result (fold_package meta.now model.old operations.now ≡ Some model.new) }
     ensures good { Good meta.now model.new }
 {
+    meta.recall_soundness();
     match follow(model, meta, operations) {
         Ok(()) => Ok(()),
         Err(fault) => match fault {
@@ -95,11 +95,11 @@ pub fn take_back(
     meta: &Metamodel,
     package: &Package,
 ) -> Result<(), AllocError>
-    requires sound { Sound meta.now }
     requires led { LedTo meta.now «package».now model.old }
     ensures back { OnOk result (fold_package meta.now model.new «package».now ≡ Some model.old) }
     ensures good { OnOk result (Good meta.now model.new) }
 {
+    meta.recall_soundness();
     let reversal = reverse(alloc, package)?;
     follow_all(model, meta, reversal.as_slice())
 }
@@ -153,11 +153,11 @@ pub fn stop_in(
     meta: &Metamodel,
     operations: &[Operation],
 ) -> Result<Option<u64>, AllocError>
-    requires sound { Sound meta.now }
     requires good { Good meta.now model.old }
     ensures stop { IfOk result (λ found. found ≡ option_map (λ x. x.at) (first_stop meta.now model.old (steps_all operations.now))) }
     ensures same { OnOk result (model.new ≡ model.old) }
 {
+    meta.recall_soundness();
     let mut steps = copy_steps(alloc, operations)?.into_vec();
     match model.replay(meta, steps.as_slice()) {
         Ok(()) => {
@@ -235,7 +235,6 @@ pub fn state_at(
     history: &History,
     v: u32,
 ) -> Result<Working, AllocError>
-    requires sound { Sound meta.now }
     requires there { v < length history.now.history.versions }
     requires leads { is_some (state_folded meta.now history.now.history v) ≡ true }
     requires spelled { IsSpelled meta.now (state_of meta.now history.now.history v) }
@@ -247,6 +246,7 @@ pub fn state_at(
     ensures uses { Uses pool.old pool.new cache.old cache.new }
     ensures forms { AreForms (Some meta.now) history.now.history (stands pool.new cache.new) }
 {
+    meta.recall_soundness();
     if let Some(model) = cached_state(alloc, cache, pool, meta, history, v)? {
         return Ok(model);
     }

@@ -2,7 +2,6 @@
 ghost use Rattle.std.specs.Prelude.{◌≡◌, Some, IfErr, IfOk, OnOk, take, true};
 ghost use Rattle.edits.specs.FreshIds.{fresh_id};
 ghost use Rattle.ecore_meta.specs.Meta.{Meta};
-ghost use Rattle.ecore_meta.specs.Sound.{Sound};
 ghost use Rattle.model_state.specs.Faults.{IsApplyFault};
 ghost use Rattle.model_state.specs.Good.{Good};
 ghost use Rattle.model_state.specs.Ident.{is_id};
@@ -82,13 +81,13 @@ impl Working {
 
     /// Takes the steps one by one, up to the first that can't be taken, whose place, from 0, and fault it gives. The steps before it are taken then.
     pub fn replay(&mut self, meta: &Metamodel, steps: &[Step]) -> Result<(), ApplyFault>
-        requires sound { Sound meta.now }
         requires good { Good meta.now self.old }
         ensures done { OnOk result (fold meta.now self.old steps.now ≡ Some self.new) }
         ensures cannot { IfErr result (λ e. IsApplyFault (first_stop meta.now self.old steps.now) e) }
         ensures taken { IfErr result (λ e. fold meta.now self.old (take e.at steps.now) ≡ Some self.new) }
         ensures good { Good meta.now self.new }
     {
+        meta.recall_soundness();
         let next = kept_up_to(self.alloc, self.ws, self.next, steps);
         self.next = 1;
         replay(&mut self.model, meta, steps)?;

@@ -32,5 +32,5 @@ returns-clause-form g c =
       operations = whole_package c.args.meta.now m;
       spelled = whole_is_spelled c.args.meta.now m c.requires.good c.requires.spelled few;
       is = c.in_ok-encode_steps.ensures ∙ ap package_encoding (ap as_package c.in_ok-steps.ensures.steps);
-      leads = whole_leads c.args.meta.now c.requires.sound m c.requires.good;
+      leads = whole_leads c.args.meta.now c.recall_soundness.ensures m c.requires.good;
     }

@@ -33,4 +33,4 @@ returns-clause-steps g c =
 pub returns-clause-build : goal.returns-clause-build
 returns-clause-build g c =
     ap (fold c.args.meta.now nothing) (returns-clause-steps g c)
-    ∙ steps_build c.args.meta.now c.requires.sound (g.L.Look.state c.args.look.now) c.requires.good
+    ∙ steps_build c.args.meta.now c.recall_soundness.ensures (g.L.Look.state c.args.look.now) c.requires.good

@@ -16,7 +16,7 @@ untake-requires-clause-led c = record {
 
 pub untake-requires-in_default : goal.untake-requires-in_default
 untake-requires-in_default c = record {
-  sound = c.requires.sound;
+  sound = c.recall_soundness.ensures;
   led = record {
     before = c.args.model.now;
     good = c.requires.good;
@@ -34,7 +34,7 @@ returns-in_ok-untake-in-Ok-clause-stop c =
 
 pub returns-in_ok-untake-in-Ok-clause-same : goal.returns-in_ok-untake-in-Ok-clause-same
 returns-in_ok-untake-in-Ok-clause-same c =
-    put_back c.args.meta.now c.requires.sound c.args.model.now c.untake.new.model c.replay.new.self c.as_slice.result.now c.from_vec.result
+    put_back c.args.meta.now c.recall_soundness.ensures c.args.model.now c.untake.new.model c.replay.new.self c.as_slice.result.now c.from_vec.result
     c.requires.good c.in_ok-untake-in-Ok.ensures.good c.in-Ok.ensures.done (c.from_vec.ensures ∙ sym c.as_slice.ensures.value)
     c.in_ok-untake-in-Ok.ensures.back
 
@@ -46,7 +46,7 @@ returns-in_ok-untake-in_default c =
     let left = c.from_vec-in_default.ensures ∙ c.truncate.ensures.items ∙ ap (take c.in-Err.stop.at) (sym c.as_slice.ensures.value) in
     record {
       stop = sym (ap (λ (o : Option ApplyFault). option_map (λ (x : ApplyFault). x.at) o) (ap (first_stop c.args.meta.now c.args.model.now) (sym same) ∙ at));
-      same = put_back c.args.meta.now c.requires.sound c.args.model.now c.untake-in_default.new.model c.replay.new.self steps
+      same = put_back c.args.meta.now c.recall_soundness.ensures c.args.model.now c.untake-in_default.new.model c.replay.new.self steps
           c.from_vec-in_default.result c.requires.good c.in_ok-untake-in_default.ensures.good c.in-Err.ensures.taken left
           c.in_ok-untake-in_default.ensures.back;
     }
