@@ -42,7 +42,6 @@ pub fn take_steps(model: &mut Working, meta: &Metamodel, steps: &[Step]) -> Resu
     ensures cannot { IfErr result (λ e. IsFault (fault_along meta.now model.old steps.now) e) }
     ensures good { Good meta.now model.new }
 {
-    meta.recall_soundness();
     match model.replay(meta, steps) {
         Ok(()) => Ok(()),
         Err(stop) => Err(stop.fault),
@@ -60,7 +59,6 @@ pub fn follow(
     ensures cannot { IfErr result (λ e. e ≢ StepFault.Memory → fold_package meta.now model.old operations.now ≡ None) }
     ensures good { Good meta.now model.new }
 {
-    meta.recall_soundness();
     for operation in operations {
         take_steps(model, meta, operation.steps())?;
     }
@@ -78,7 +76,6 @@ pub fn follow_all(
     ensures done { OnOk result (fold_package meta.now model.old operations.now ≡ Some model.new) }
     ensures good { Good meta.now model.new }
 {
-    meta.recall_soundness();
     match follow(model, meta, operations) {
         Ok(()) => Ok(()),
         Err(fault) => match fault {

@@ -87,7 +87,6 @@ impl Working {
         ensures taken { IfErr result (λ e. fold meta.now self.old (take e.at steps.now) ≡ Some self.new) }
         ensures good { Good meta.now self.new }
     {
-        meta.recall_soundness();
         let next = kept_up_to(self.alloc, self.ws, self.next, steps);
         self.next = 1;
         replay(&mut self.model, meta, steps)?;
