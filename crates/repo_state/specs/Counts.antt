@@ -5,6 +5,6 @@ use Rattle.plain_repository.specs.Answers.{most_events}
 use Rattle.plain_repository.specs.Laws.{IsReached}
 use Rattle.repo_state.specs.Counting.{live_workspaces}
 
--- after any events that could be made there are no more workspaces than events, and no more of these than a journal has room for
+-- after any events that could be made there are no more workspaces than events, and no more of these than a store may have
 abbrev pub WorkspacesAreFew : Type 0
 WorkspacesAreFew = (s : State) → IsReached s → (live_workspaces s ≤ s.events) × (s.events ≤ most_events)

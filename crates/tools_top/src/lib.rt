@@ -1,4 +1,5 @@
-//! The program `emftools` as a call: questions of a store, and a script that is served behind a guard.
+//! The program `emftools` as a call: questions of a store, a script that is served behind a guard, and a store printed as the script
+//! that makes it again.
 #![tactic(auto)]
 
 mod asked;
