@@ -10,7 +10,7 @@ pub mod MoveEdits
 pub mod Idle
 pub mod Refused
 pub mod ManyEdits
-pub mod Spots
+pub mod SpotOrder
 pub mod Told
 pub mod RowStanding
 pub mod PlaceStanding

@@ -22,7 +22,7 @@ use Rattle.edit_steps.specs.References.{without_entry, stands_at}
 use Rattle.edit_steps.specs.Standing.{ids_of, reranked, StandsAt}
 use Rattle.edit_steps.proofs.Lists.{Apart, apart_from, any-in_order, all-in_order}
 use Rattle.edit_steps.proofs.LinkEdits.{none_without, all_filter}
-use Rattle.edit_steps.proofs.Spots.{spot_opens}
+use Rattle.edit_steps.proofs.SpotOrder.{spot_opens}
 
 -- the rank of each element that is in a list
 abbrev pub Ranking : Type 0

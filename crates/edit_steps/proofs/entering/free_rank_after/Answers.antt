@@ -4,7 +4,7 @@ use Rattle.model_state.specs.declared.entry.Entry.{Entry}
 use Rattle.model_state.specs.Listing.{targets, last_rank}
 use Rattle.model_state.specs.Ranks.{rank_between}
 use Rattle.edit_steps.specs.Spot.{rank_for, ranks_of}
-use Rattle.edit_steps.proofs.Spots.{end_rank}
+use Rattle.edit_steps.proofs.SpotOrder.{end_rank}
 use Rattle.edit_steps.proofs.entering.free_rank_after.Goals as goal
 
 after_last : (xs : List Entry) (last : Option ℕ) (n : ℕ) (r : Option ℕ) → last ≡ last_rank xs → n ≡ unwrap_or last 0 → r ≡ rank_between n None

@@ -1,4 +1,4 @@
-use Rattle.edit_steps.proofs.Spots.{spot_stands}
+use Rattle.edit_steps.proofs.SpotOrder.{spot_stands}
 use Rattle.edit_steps.proofs.RowStanding.{link_stands, set_ref_stands, reorder_stands}
 use Rattle.edit_steps.proofs.PlaceStanding.{create_stands, move_within_stands, move_to_stands}
 use Rattle.edit_steps.proofs.laws.law_of_standing.Goals as goal
