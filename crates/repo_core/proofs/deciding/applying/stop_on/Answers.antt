@@ -1,9 +1,10 @@
 use Rattle.repo_core.proofs.Applied.{model_good, stops_by}
 use Rattle.repo_core.proofs.deciding.applying.stop_on.Goals as goal
 
-pub stop_in-requires-clause-good : goal.stop_in-requires-clause-good
-stop_in-requires-clause-good c =
-    model_good c.args.repo.now c.args._ws c.in-Some.begun.now.meta c.args.model.now c.in-Some.ensures.meta c.requires.there c.requires.model
+pub stop_in-requires : goal.stop_in-requires
+stop_in-requires c = record {
+  good = model_good c.args.repo.now c.args._ws c.in-Some.begun.now.meta c.args.model.now c.in-Some.ensures.meta c.requires.there c.requires.model;
+}
 
 pub returns-clause-stop : goal.returns-clause-stop
 returns-clause-stop c =

@@ -6,12 +6,15 @@ use Rattle.repo_state.proofs.Effects.{begun_is}
 use Rattle.repo_state.proofs.Taking.{model_good, taken_cannot, taken_could, taken_lead, taker}
 use Rattle.repo_state.proofs.repo.Repo.advance.Goals as goal
 
-pub follow-requires-clause-good : goal.follow-requires-clause-good
-follow-requires-clause-good c =
+pub follow-requires : goal.follow-requires
+follow-requires c =
     let s = c.args.self.now in
     let meta = c.in-Some.begun.meta in
     let begun = begun_is c.self.inside.begun c.in-Some.begun _ c.self.inside.events c.self.inside.end s c.self.view_is c.in-Some.is in
-    model_good s meta c.args.ws c.args.package.now begun (taker s meta c.args.ws c.args.package.now begun c.requires.takes) c.args.model.now c.requires.model
+    record {
+      good = model_good s meta c.args.ws c.args.package.now begun (taker s meta c.args.ws c.args.package.now begun c.requires.takes) c.args.model.now
+          c.requires.model;
+    }
 
 pub returns-in-Ok-clause-could : goal.returns-in-Ok-clause-could
 returns-in-Ok-clause-could c =
