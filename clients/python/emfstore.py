@@ -70,7 +70,7 @@ class Checkout:
 
 @dataclass(frozen=True)
 class Bucket:
-    """Operations that conflict, by their numbers: theirs of the new versions, mine as `changes` numbers them. One side is kept."""
+    """Operations that conflict, by their numbers. Of an update mine are those of `changes`, of a merge mine as tidied. One side is kept."""
     number: int
     theirs: tuple[int, ...]
     mine: tuple[int, ...]
@@ -118,6 +118,8 @@ class Store:
         words = line.removesuffix("\r").split(" ")
         if "\n" in line or (block is not None) != (words[0] in COMMANDS_WITH_BLOCKS):
             raise ValueError("a command is one line, and has a block just where its first word takes one")
+        if block and any(it.removesuffix("\r") == "." for it in block.split("\n")):
+            raise ValueError("a line of the block is just a dot, which would end it")
         if block and not block.endswith("\n"):
             block += "\n"
         self.write(line + "\n" + ("" if block is None else block + ".\n"))

@@ -75,7 +75,7 @@ pub enum Refusal {
     NotOnPath,
     /// 33: as many events stand in the history as it can hold.
     HistoryFull,
-    /// 34: the event's record would be longer than a record may be. Or, for `package`, a list of the version's
+    /// 34: the event's record would be longer than a record may be, or the event has no encoding. Or, for `package`, a list of the version's
     /// operations has too many items to have bytes.
     TooLarge,
     /// 35: the event's record would pass the journal's limit.
@@ -94,7 +94,7 @@ pub enum Refusal {
     Denied { rule: u32 },
     /// 42: no block of a script has room for the package of the event at that place, counted from 1.
     TooLong { place: u32 },
-    /// 43: no line of a script spells the event at that place, counted from 1.
+    /// 43: no line or block of a script holds the event at that place as it stands, counted from 1.
     NotPrintable { place: u32 },
 }
 
