@@ -4,6 +4,7 @@ use Rattle.std.proofs.Common.{IfSome, sym, ◌∙◌, ap, subst, refl, arith}
 use Rattle.std.specs.Prelude.{All, if◌then◌else◌}
 use Rattle.std.specs.List.{Contains}
 use Rattle.std.proofs.Math.ListN.{set, get_or}
+use Rattle.std.proofs.lemmas.Option.{same_Some}
 use Rattle.ecore_meta.specs.Meta.{Meta}
 use Rattle.history_tree.specs.History.{History}
 use Rattle.repo_state.specs.declared.repo.Begun.{Begun}
@@ -48,6 +49,17 @@ pub keepers_set : (places : List ℕ) (ws : List (Option Kept)) (i : ℕ) (x : O
     → KeepersAmong places ws → KeepersAmong places (set ws i x)
 keepers_set places ws i x now all at keeps =
     ⊎_elim (λ here. subst (Contains places) (sym here.0) (now here.1)) (λ other. all at other.1) (set_split ws i x at keeps)
+
+-- where the places are the same
+pub keepers_same : (old new : List ℕ) (ws : List (Option Kept)) → new ≡ old → KeepersAmong old ws → KeepersAmong new ws
+keepers_same old new ws is all = subst (λ (places : List ℕ). KeepersAmong places ws) (sym is) all
+
+-- where one isn't there any more, its place may go
+pub keepers_gone : (old new : List ℕ) (ws : List (Option Kept)) (i : ℕ) → ((n : ℕ) → Contains old n → Contains new n ⊎ (Some i ≡ Some n))
+    → KeepersAmong old ws → KeepersAmong new (set ws i None)
+keepers_gone old new ws i stays all at keeps =
+    ⊎_elim (λ here. let clash : false ≡ true = here.1 in absurd cc)
+    (λ other. ⊎_elim (λ has. has) (λ is. absurd (other.0 (sym (same_Some i at is)))) (stays at (all at other.1))) (set_split ws i None at keeps)
 
 more : (ws : List (Option Kept)) (w : Kept) (at : ℕ) → keeps_model (get_or (ws ++ Some w ∷ []) at None) ≡ true
     → (keeps_model (Some w) ≡ true) ⊎ (keeps_model (get_or ws at None) ≡ true)

@@ -11,5 +11,6 @@ pub mod Keepers
 pub mod Merges
 pub mod Models
 pub mod Ordered
+pub mod Sized
 pub mod Taken
 pub mod Taking

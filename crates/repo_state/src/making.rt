@@ -177,7 +177,7 @@ impl Repo {
             unreachable!()
         };
         self.sizes.grow(at, created(package.as_slice()));
-        let kept = to_keep(&self.recent, at, model);
+        let kept = to_keep(&self.recent, &self.sizes, at, model);
         let Some(workspace) = &mut self.workspaces[at] else {
             unreachable!()
         };
@@ -223,7 +223,7 @@ impl Repo {
         workspace.close_composite()
     }
 
-    /// Drops the last operation of a workspace.
+    /// Drops the last operation of a workspace. The elements that it deleted are counted as added to the model that is kept.
     pub fn undo(&mut self, alloc: Global, ws: u32)
         requires there { is_some (workspace_of self.old ws) ≡ true }
         requires could { playable_with self.old self.old.meta (Undo ws) ≡ true }
@@ -240,10 +240,11 @@ impl Repo {
         let Some(workspace) = &mut self.workspaces[at] else {
             unreachable!()
         };
+        self.sizes.grow(at, workspace.last_deleted());
         workspace.undo(alloc, &begun.meta, &begun.history);
     }
 
-    /// Drops all that is local in a workspace.
+    /// Drops all that is local in a workspace. The elements that it deleted are counted as added to the model that is kept.
     pub fn discard(&mut self, alloc: Global, ws: u32)
         requires there { is_some (workspace_of self.old ws) ≡ true }
         requires could { playable_with self.old self.old.meta (Discard ws) ≡ true }
@@ -260,6 +261,7 @@ impl Repo {
         let Some(workspace) = &mut self.workspaces[at] else {
             unreachable!()
         };
+        self.sizes.grow(at, workspace.local_deleted());
         workspace.discard(alloc, &begun.meta, &begun.history);
     }
 

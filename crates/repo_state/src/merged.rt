@@ -60,10 +60,10 @@ impl Repo {
             unreachable!()
         };
         begun.meta.recall_soundness();
-        self.sizes.grow(at, created(updated.theirs.as_slice()));
         let Some(workspace) = &mut self.workspaces[at] else {
             unreachable!()
         };
+        self.sizes.grow(at, workspace.added_by(&updated));
         workspace.update(alloc, &begun.meta, &begun.history, updated);
     }
 

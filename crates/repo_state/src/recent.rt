@@ -4,7 +4,7 @@ ghost use Rattle.std.specs.List.{Contains};
 ghost use Rattle.ecore_meta.specs.Meta.{Meta};
 ghost use Rattle.history_tree.specs.History.{History};
 ghost use Rattle.repo_state.specs.Keeping.{FitsAny, keeps_model, plain_any};
-ghost use Rattle.repo_state.specs.Sizes.{HasRoom};
+ghost use Rattle.repo_state.specs.Sizes.{HasRoom, sized};
 
 use crate::repo::Repo;
 use crate::sizes::{MOST_ELEMENTS, Sizes};
@@ -37,13 +37,14 @@ fn forget(workspaces: &mut Vec<Option<Workspace>>, out: Option<usize>)
     }
 }
 
-/// As long as the models that are kept have more elements together than that, the one used longest ago is let go. That of
-/// the workspace at this place stays.
+/// As long as the models that are kept have more elements together than that, the one used longest ago is let go, and its
+/// size with it. That of the workspace at this place stays. So a workspace whose size goes has no model afterwards.
 fn let_go(workspaces: &mut Vec<Option<Workspace>>, sizes: &mut Sizes, at: usize, most: usize)
     requires { most < usize.MAX }
     ensures same { map plain_any workspaces.new.items ≡ map plain_any workspaces.old.items }
     ensures fits { (meta : Meta) (h : History) → All (FitsAny meta h) workspaces.old.items → All (FitsAny meta h) workspaces.new.items }
     ensures kept { (i : ℕ) → keeps_model (get_or workspaces.new.items i None) ≡ true → keeps_model (get_or workspaces.old.items i None) ≡ true }
+    ensures sized { (i : ℕ) → Contains (sized sizes.old.sizes.items) i → keeps_model (get_or workspaces.new.items i None) ≡ true → Contains (sized sizes.new.sizes.items) i }
     ensures room { HasRoom sizes.new.sizes.items at most }
 {
     while let Some(out) = sizes.take_out(at, most) {
@@ -51,12 +52,13 @@ fn let_go(workspaces: &mut Vec<Option<Workspace>>, sizes: &mut Sizes, at: usize,
     }
 }
 
-/// The model, where the place is among those of the workspaces that used theirs last.
-pub(crate) fn to_keep(recent: &Recent, at: usize, model: Working) -> Option<Working>
+/// The model, where the place is among those of the workspaces that used theirs last, and it has a size.
+pub(crate) fn to_keep(recent: &Recent, sizes: &Sizes, at: usize, model: Working) -> Option<Working>
     ensures same { IfSome result (λ m. m ≡ model) }
     ensures among { IfSome result (λ _. Contains recent.now at) }
+    ensures sized { IfSome result (λ _. Contains (sized sizes.now.sizes.items) at) }
 {
-    if recent.has(at) {
+    if recent.has(at) && sizes.has(at) {
         return Some(model);
     }
     None
@@ -75,7 +77,8 @@ impl Repo {
     }
 
     /// The model of the workspace at a place is used now, and is that. As long as the models that are kept are too large
-    /// together, the one used longest ago is let go, but not this one.
+    /// together, the one used longest ago is let go, but not this one. How many elements a model has that is made anew isn't
+    /// known before. So it comes beside the others until then, and what events add comes beside them until the next use.
     pub(crate) fn weigh(
         &mut self,
         alloc: Global,
@@ -93,7 +96,7 @@ impl Repo {
     pub(crate) fn let_others_go(&mut self, at: usize)
         ensures same { self.new ≡ self.old }
     {
-        self.sizes.forget(Some(at));
+        self.sizes.put_last(at);
         let_go(&mut self.workspaces, &mut self.sizes, at, 0);
     }
 }

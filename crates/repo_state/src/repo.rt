@@ -37,7 +37,7 @@ pub struct Begun {
 
 /// The metamodel and the history once there are such, the workspaces, and how much of the journal is used. Contracts see
 /// all but the models that workspaces keep, and what is known of these: the places of the workspaces that used theirs
-/// last, 64 at most, and the sizes. Each workspace that keeps its model is among those.
+/// last, 64 at most, and the sizes. Each workspace that keeps its model is among those, and its model has a size.
 #[derive(Drop)]
 pub struct Repo {
     pub(crate) begun: Option<Begun>,
@@ -53,12 +53,13 @@ impl Model for Repo {
     ghost use Rattle.plain_repository.specs.State.{State};
     ghost use Rattle.plain_repository.specs.Orderly.{IsOrderly};
     ghost use Rattle.repo_state.specs.Keeping.{AllFit, KeepersAmong, meta_of, history_of, upgraded_of, plain_any};
+    ghost use Rattle.repo_state.specs.Sizes.{sized};
 
     ghost Value = { State };
 
     ghost view = { λ r. record { meta = meta_of r.begun; history = history_of r.begun; workspaces = map plain_any r.workspaces.items; upgraded = upgraded_of r.begun; events = r.events; end = r.end } };
 
-    ghost invariant = { λ r. (r.end ≤ 2 ^ 40) × AllFit r.begun r.workspaces.items × IsOrderly (record { meta = meta_of r.begun; history = history_of r.begun; workspaces = map plain_any r.workspaces.items; upgraded = upgraded_of r.begun; events = r.events; end = r.end }) × KeepersAmong r.recent r.workspaces.items };
+    ghost invariant = { λ r. (r.end ≤ 2 ^ 40) × AllFit r.begun r.workspaces.items × IsOrderly (record { meta = meta_of r.begun; history = history_of r.begun; workspaces = map plain_any r.workspaces.items; upgraded = upgraded_of r.begun; events = r.events; end = r.end }) × KeepersAmong r.recent r.workspaces.items × KeepersAmong (sized r.sizes.sizes.items) r.workspaces.items };
 }
 
 impl Repo {
@@ -183,7 +184,8 @@ impl Repo {
     }
 
     /// The working model of a workspace, which doesn't keep it meanwhile. Of the other workspaces those that were used last
-    /// keep theirs, but where memory runs out: then all others are let go, and the model is made once more.
+    /// keep theirs, as far as these and this one have at most 1,000,000 elements together. Where memory runs out, all others
+    /// are let go, and the model is made once more.
     pub fn take_model(
         &mut self,
         alloc: Global,
@@ -275,7 +277,7 @@ impl Repo {
             unreachable!()
         };
         begun.meta.recall_soundness();
-        let kept = to_keep(&self.recent, at, model);
+        let kept = to_keep(&self.recent, &self.sizes, at, model);
         let Some(workspace) = &mut self.workspaces[at] else {
             unreachable!()
         };

@@ -19,6 +19,7 @@ ghost use Rattle.repo_state.specs.Planning.{replaced, restarted, taken_up};
 
 use crate::following::{model_after, model_before, model_before_one, updated_model};
 use crate::merged::{Merged, Updated};
+use crate::sizes::{created, deleted, deleted_by};
 use ecore_meta::{CompactList, Metamodel};
 use history_tree::{History, Signature, Version};
 use model_state::{Operation, Package, Step, StepFault};
@@ -228,6 +229,23 @@ impl Workspace {
         Ok(())
     }
 
+    /// How many elements the last operation deletes. No more come back where it is dropped.
+    pub(crate) fn last_deleted(&self) -> usize {
+        match self.operations.last() {
+            None => 0,
+            Some(operation) => deleted_by(operation.steps()),
+        }
+    }
+
+    /// How many elements all that is local deletes. No more come back where it is dropped.
+    pub(crate) fn local_deleted(&self) -> usize {
+        let in_composite = match &self.composite {
+            None => 0,
+            Some(composite) => deleted_by(composite.steps.as_slice()),
+        };
+        deleted(self.operations.as_slice()).saturating_add(in_composite)
+    }
+
     /// Drops the last operation. A model that is kept takes it back, or is not kept when out of memory.
     pub(crate) fn undo(&mut self, alloc: Global, meta: &Metamodel, _history: &History)
         requires sound { Sound meta.now }
@@ -322,6 +340,16 @@ impl Workspace {
         ensures model { self.new.model ≡ self.old.model }
     {
         self.operations = fitted(alloc, operations);
+    }
+
+    /// How many elements an update adds to the model at most. What is local is taken back, so what it deletes comes back, and
+    /// what it creates goes.
+    pub(crate) fn added_by(&self, updated: &Updated) -> usize {
+        let theirs = created(updated.theirs.as_slice());
+        theirs
+            .saturating_add(created(updated.operations.as_slice()))
+            .saturating_add(self.local_deleted())
+            .saturating_sub(created(self.operations.as_slice()))
     }
 
     /// Stands at a version with other operations. A model that is kept goes there too, or is not kept when out of memory.

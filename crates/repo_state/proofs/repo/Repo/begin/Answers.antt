@@ -15,4 +15,5 @@ invariant_of-self c =
           c.in_ok-begun.begun c.self.view_is none orderly c.in_ok-begun.ensures.meta c.in_ok-begun.ensures.history c.in_ok-begun.ensures.fresh
           c.requires.spelled,
       c.self.invariant.3,
+      c.self.invariant.4,
     )

@@ -3,6 +3,7 @@ use Rattle.std.proofs.Common.{Some, subst}
 use Rattle.op_form.specs.declared.event.Event.TheVariants.{Branch}
 use Rattle.plain_repository.specs.Orderly.{IsOrderly}
 use Rattle.repo_state.specs.Keeping.{plain_of}
+use Rattle.repo_state.specs.Sizes.{sized}
 use Rattle.repo_state.proofs.Effects.{begun_is, both_err, both_ok, either, either_orderly, history_is, keeper_before, on_err, on_ok, placed, placed_there}
 use Rattle.repo_state.proofs.Grown.{branch_done, branch_fit, branch_new, grown_same, grown_same_fit, stands_in}
 use Rattle.repo_state.proofs.Keepers.{keepers_set, same_keeps}
@@ -68,6 +69,9 @@ invariant_of-self c =
       either_orderly r s _ begun.meta (Branch c.args.ws c.args.name) is_begun c.requires.could c.requires.spelled orderly done same,
       keepers_set c.self.inside.recent c.self.inside.workspaces.items c.in-Some.at (Some w')
           (λ keeps. keeper_before p c.self.inside.recent c.self.invariant.3 (same_keeps w w' c.branch-begun.ensures.model keeps)) c.self.invariant.3,
+      keepers_set (sized c.self.inside.sizes.sizes.items) c.self.inside.workspaces.items c.in-Some.at (Some w')
+          (λ keeps. keeper_before p (sized c.self.inside.sizes.sizes.items) c.self.invariant.4 (same_keeps w w' c.branch-begun.ensures.model keeps))
+          c.self.invariant.4,
     )
 
 pub returns : goal.returns

@@ -3,6 +3,7 @@ use Rattle.ecore_meta.specs.Meta.{Meta}
 use Rattle.plain_repository.specs.State.{State}
 use Rattle.plain_repository.specs.Orderly.{IsOrderly}
 use Rattle.repo_state.specs.Keeping.{meta_of}
+use Rattle.repo_state.specs.Sizes.{sized}
 use Rattle.repo_state.proofs.Effects.{pushed_fit, pushed_order}
 use Rattle.repo_state.proofs.Keepers.{keepers_pushed}
 use Rattle.repo_state.proofs.repo.Repo.check_out.Goals as goal
@@ -23,4 +24,6 @@ invariant_of-self c =
           c.requires.could c.requires.spelled (subst IsOrderly c.self.view_is c.self.invariant.2) c.new.ensures.untouched c.push.ensures.items,
       keepers_pushed c.self.inside.recent c.self.inside.workspaces.items c.push.new.self.items c.new.result
           (is_ok c.push.result) c.new.ensures.model c.push.ensures.items c.self.invariant.3,
+      keepers_pushed (sized c.self.inside.sizes.sizes.items) c.self.inside.workspaces.items c.push.new.self.items c.new.result
+          (is_ok c.push.result) c.new.ensures.model c.push.ensures.items c.self.invariant.4,
     )

@@ -4,6 +4,7 @@ use Rattle.op_form.specs.declared.event.Event.TheVariants.{End}
 use Rattle.plain_repository.specs.Composites.{with_closed}
 use Rattle.plain_repository.specs.State.{folded}
 use Rattle.repo_state.specs.Keeping.{plain_of}
+use Rattle.repo_state.specs.Sizes.{sized}
 use Rattle.repo_state.proofs.Changing.{fit_set}
 use Rattle.repo_state.proofs.Effects.{begun_is, changed_view, either, either_orderly, fit_before, keeper_before, on_err, on_ok, placed, unchanged_view}
 use Rattle.repo_state.proofs.Models.{closed_folded, fits_same}
@@ -34,6 +35,9 @@ invariant_of-self c =
           (on_err c.close_composite.result (unchanged_view p new) c.close_composite.ensures.same),
       keepers_set c.self.inside.recent c.self.inside.workspaces.items c.in-Some.at (Some new)
           (λ keeps. keeper_before p c.self.inside.recent c.self.invariant.3 (same_keeps w new c.close_composite.ensures.model keeps)) c.self.invariant.3,
+      keepers_set (sized c.self.inside.sizes.sizes.items) c.self.inside.workspaces.items c.in-Some.at (Some new)
+          (λ keeps. keeper_before p (sized c.self.inside.sizes.sizes.items) c.self.invariant.4 (same_keeps w new c.close_composite.ensures.model keeps))
+          c.self.invariant.4,
     )
 
 pub returns : goal.returns

@@ -4,10 +4,11 @@ use Rattle.plain_repository.specs.Orderly.{IsOrderly}
 use Rattle.op_form.specs.declared.event.Event.TheVariants.{Discard}
 use Rattle.plain_repository.specs.Local.{without_any}
 use Rattle.repo_state.specs.Keeping.{plain_of}
+use Rattle.repo_state.specs.Sizes.{sized}
 use Rattle.repo_state.proofs.Changing.{fit_set}
 use Rattle.repo_state.proofs.Could.{base_good}
 use Rattle.repo_state.proofs.Effects.{begun_is, changed_view, effect_orderly, fit_before, history_is, keeper_before, placed, placed_there}
-use Rattle.repo_state.proofs.Keepers.{keepers_set}
+use Rattle.repo_state.proofs.Keepers.{keepers_same, keepers_set}
 use Rattle.repo_state.proofs.repo.Repo.discard.Goals as goal
 
 pub discard-requires-clause-base : goal.discard-requires-clause-base
@@ -50,6 +51,9 @@ invariant_of-self c =
           (subst IsOrderly c.self.view_is c.self.invariant.2) (changed_view p without_any new c.discard.ensures.discarded),
       keepers_set c.self.inside.recent c.self.inside.workspaces.items c.in-Some.at (Some new)
           (λ keeps. keeper_before p c.self.inside.recent c.self.invariant.3 (c.discard.ensures.kept keeps)) c.self.invariant.3,
+      keepers_same (sized c.self.inside.sizes.sizes.items) (sized c.grow.new.self.sizes.items) _ c.grow.ensures
+          (keepers_set (sized c.self.inside.sizes.sizes.items) c.self.inside.workspaces.items c.in-Some.at (Some new)
+          (λ keeps. keeper_before p (sized c.self.inside.sizes.sizes.items) c.self.invariant.4 (c.discard.ensures.kept keeps)) c.self.invariant.4),
     )
 
 pub returns : goal.returns

@@ -1,9 +1,10 @@
 use Rattle.std.proofs.Common.{◌≡◌, true, false, None, refl, subst}
 use Rattle.op_form.specs.declared.event.Event.TheVariants.{Drop}
 use Rattle.plain_repository.specs.Orderly.{IsOrderly}
+use Rattle.repo_state.specs.Sizes.{sized}
 use Rattle.repo_state.proofs.Changing.{fit_set}
 use Rattle.repo_state.proofs.Effects.{begun_is, effect_orderly, number_set}
-use Rattle.repo_state.proofs.Keepers.{keepers_set}
+use Rattle.repo_state.proofs.Keepers.{keepers_gone, keepers_set}
 use Rattle.repo_state.proofs.repo.Repo.drop_workspace.Goals as goal
 
 pub invariant_of-self : goal.invariant_of-self
@@ -18,6 +19,8 @@ invariant_of-self c =
           None None c.self.view_is c.in-Some.ensures.there.0 c.in-Some.ensures.there.1 refl),
       keepers_set c.self.inside.recent c.self.inside.workspaces.items c.in-Some.at None
           (λ keeps. let clash : false ≡ true = keeps in absurd cc) c.self.invariant.3,
+      keepers_gone (sized c.self.inside.sizes.sizes.items) (sized c.forget.new.self.sizes.items) c.self.inside.workspaces.items c.in-Some.at
+          c.forget.ensures.stays c.self.invariant.4,
     )
 
 pub returns : goal.returns

@@ -20,4 +20,5 @@ invariant_of-self c =
           (evolve_done c.self.inside.begun begun c.self.inside.workspaces.items c.self.inside.events c.self.inside.end s c.self.view_is c.in-Some.is
           orderly c.self.invariant.1 text meta c.in_ok-meta.ensures.grown),
       c.self.invariant.3,
+      c.self.invariant.4,
     )

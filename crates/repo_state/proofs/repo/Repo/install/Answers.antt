@@ -4,10 +4,11 @@ use Rattle.plain_repository.specs.Orderly.{IsOrderly}
 use Rattle.op_form.specs.declared.event.Event.TheVariants.{Edit}
 use Rattle.plain_repository.specs.Edits.{with_more}
 use Rattle.repo_state.specs.Keeping.{plain_of}
+use Rattle.repo_state.specs.Sizes.{sized}
 use Rattle.repo_state.proofs.Changing.{fit_set, none_fits}
 use Rattle.repo_state.proofs.Could.{edit_takes, installed_fits}
 use Rattle.repo_state.proofs.Effects.{begun_is, both_ok, changed_view, either, either_orderly, history_is, on_err, on_ok, placed, placed_there, unchanged_view}
-use Rattle.repo_state.proofs.Keepers.{fits_if, keepers_set, kept_if, none_keeps}
+use Rattle.repo_state.proofs.Keepers.{fits_if, keepers_same, keepers_set, kept_if, none_keeps}
 use Rattle.repo_state.proofs.repo.Repo.install.Goals as goal
 
 pub install-requires : goal.install-requires
@@ -49,6 +50,11 @@ invariant_of-self c =
           (either c.install.result c.install.ensures.kept c.install.ensures.gone
           (λ is keeps. kept_if c.self.inside.recent c.in-Some.at c.to_keep-kept.result new c.to_keep-kept.ensures.among is keeps)
           (λ is keeps. none_keeps new _ is keeps)) c.self.invariant.3,
+      keepers_set (sized c.grow.new.self.sizes.items) c.self.inside.workspaces.items c.in-Some.at (Some new)
+          (either c.install.result c.install.ensures.kept c.install.ensures.gone
+          (λ is keeps. kept_if (sized c.grow.new.self.sizes.items) c.in-Some.at c.to_keep-kept.result new c.to_keep-kept.ensures.sized is keeps)
+          (λ is keeps. none_keeps new _ is keeps))
+          (keepers_same (sized c.self.inside.sizes.sizes.items) (sized c.grow.new.self.sizes.items) _ c.grow.ensures c.self.invariant.4),
     )
 
 pub returns : goal.returns

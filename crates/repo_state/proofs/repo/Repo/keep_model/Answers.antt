@@ -5,6 +5,7 @@ use Rattle.plain_repository.specs.State.{State, workspace_of}
 use Rattle.plain_repository.specs.Orderly.{IsOrderly}
 use Rattle.plain_repository.specs.Laws.{IsThere}
 use Rattle.repo_state.specs.Keeping.{meta_of, history_of, plain_any, plain_of}
+use Rattle.repo_state.specs.Sizes.{sized}
 use Rattle.repo_state.proofs.Changing.{at_is, below_is, fit_set, kept_fits, order_same, same_at, view_same}
 use Rattle.repo_state.proofs.Ordered.{is_there}
 use Rattle.repo_state.proofs.Keepers.{fits_if, keepers_set, kept_if}
@@ -42,6 +43,9 @@ invariant_of-self c =
       keepers_set c.self.inside.recent c.self.inside.workspaces.items c.in-Some.at (Some c.keep_model.new.self)
           (kept_if c.self.inside.recent c.in-Some.at c.to_keep-kept.result c.keep_model.new.self c.to_keep-kept.ensures.among
           c.keep_model.ensures.kept) c.self.invariant.3,
+      keepers_set (sized c.self.inside.sizes.sizes.items) c.self.inside.workspaces.items c.in-Some.at (Some c.keep_model.new.self)
+          (kept_if (sized c.self.inside.sizes.sizes.items) c.in-Some.at c.to_keep-kept.result c.keep_model.new.self c.to_keep-kept.ensures.sized
+          c.keep_model.ensures.kept) c.self.invariant.4,
     )
 
 pub returns : goal.returns

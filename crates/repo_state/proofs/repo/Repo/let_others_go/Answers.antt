@@ -9,4 +9,5 @@ invariant_of-self c = (
   order_same c.self.inside.begun c.self.inside.workspaces.items c.let_go.new.workspaces.items c.self.inside.events c.self.inside.end
       c.let_go.ensures.same c.self.invariant.2,
   λ at keeps. c.self.invariant.3 at (c.let_go.ensures.kept at keeps),
+  λ at keeps. c.let_go.ensures.sized at (c.put_last.ensures.stays at (c.self.invariant.4 at (c.let_go.ensures.kept at keeps))) keeps,
 )

@@ -6,6 +6,7 @@ use Rattle.plain_repository.specs.State.{State, workspace_of, folded}
 use Rattle.plain_repository.specs.Orderly.{IsOrderly}
 use Rattle.plain_repository.specs.Laws.{IsThere}
 use Rattle.repo_state.specs.Keeping.{FitsAny, meta_of, history_of, plain_any, plain_of}
+use Rattle.repo_state.specs.Sizes.{sized}
 use Rattle.repo_state.proofs.Changing.{at_is, below_is, fit_at, fit_set, none_fits, order_same, same_at, view_same, working}
 use Rattle.repo_state.proofs.Ordered.{base_spelled, is_there, model_leads}
 use Rattle.repo_state.proofs.Caching.{forms_back, forms_begun}
@@ -56,6 +57,8 @@ invariant_of-self c =
       order_same c.self.inside.begun c.self.inside.workspaces.items _ c.self.inside.events c.self.inside.end same c.self.invariant.2,
       keepers_set c.self.inside.recent c.self.inside.workspaces.items c.in-Some.at (Some c.take_model.new.self)
           (none_keeps c.take_model.new.self _ c.take_model.ensures.taken) c.self.invariant.3,
+      keepers_set (sized c.self.inside.sizes.sizes.items) c.self.inside.workspaces.items c.in-Some.at (Some c.take_model.new.self)
+          (none_keeps c.take_model.new.self _ c.take_model.ensures.taken) c.self.invariant.4,
     )
 
 pub returns-clause-same : goal.returns-clause-same

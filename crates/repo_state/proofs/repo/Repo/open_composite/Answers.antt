@@ -4,6 +4,7 @@ use Rattle.op_form.specs.declared.event.Event.TheVariants.{Begin}
 use Rattle.plain_repository.specs.Composites.{with_open}
 use Rattle.plain_repository.specs.State.{folded}
 use Rattle.repo_state.specs.Keeping.{plain_of}
+use Rattle.repo_state.specs.Sizes.{sized}
 use Rattle.repo_state.proofs.Changing.{fit_set}
 use Rattle.repo_state.proofs.Could.{begin_closed}
 use Rattle.repo_state.proofs.Effects.{begun_is, changed_view, effect_orderly, fit_before, keeper_before, placed, placed_there}
@@ -32,6 +33,9 @@ invariant_of-self c =
           (subst IsOrderly c.self.view_is c.self.invariant.2) (changed_view p (with_open c.args.name) new c.open_composite.ensures.opened),
       keepers_set c.self.inside.recent c.self.inside.workspaces.items c.in-Some.at (Some new)
           (λ keeps. keeper_before p c.self.inside.recent c.self.invariant.3 (same_keeps w new c.open_composite.ensures.model keeps)) c.self.invariant.3,
+      keepers_set (sized c.self.inside.sizes.sizes.items) c.self.inside.workspaces.items c.in-Some.at (Some new)
+          (λ keeps. keeper_before p (sized c.self.inside.sizes.sizes.items) c.self.invariant.4 (same_keeps w new c.open_composite.ensures.model keeps))
+          c.self.invariant.4,
     )
 
 pub returns : goal.returns

@@ -1,6 +1,7 @@
 use Rattle.std.proofs.Common.{Some, subst, sym}
 use Rattle.plain_repository.specs.Orderly.{IsOrderly}
 use Rattle.repo_state.specs.Planning.{replaced}
+use Rattle.repo_state.specs.Sizes.{sized}
 use Rattle.repo_state.proofs.Changing.{fit_set}
 use Rattle.repo_state.proofs.Effects.{begun_is, changed_view, fit_before, history_is, keeper_before, placed, placed_there}
 use Rattle.repo_state.proofs.Keepers.{keepers_set, same_keeps}
@@ -27,6 +28,9 @@ invariant_of-self c =
       keepers_set c.self.inside.recent c.self.inside.workspaces.items c.in-Some.at (Some new)
           (λ keeps. keeper_before p c.self.inside.recent c.self.invariant.3 (same_keeps w new c.replace_operations.ensures.model keeps))
           c.self.invariant.3,
+      keepers_set (sized c.self.inside.sizes.sizes.items) c.self.inside.workspaces.items c.in-Some.at (Some new)
+          (λ keeps. keeper_before p (sized c.self.inside.sizes.sizes.items) c.self.invariant.4 (same_keeps w new c.replace_operations.ensures.model keeps))
+          c.self.invariant.4,
     )
 
 pub returns : goal.returns

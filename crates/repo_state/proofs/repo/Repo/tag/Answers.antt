@@ -41,6 +41,7 @@ invariant_of-self c =
           c.tag.ensures.meta c.tag.ensures.upgraded orderly c.self.invariant.1),
       either_orderly r s _ begun.meta (Tag c.args.name c.args.version) is_begun c.requires.could c.requires.spelled orderly done same,
       c.self.invariant.3,
+      c.self.invariant.4,
     )
 
 pub returns : goal.returns

@@ -3,10 +3,11 @@ use Rattle.std.proofs.Common.{Some, subst, sym}
 use Rattle.plain_repository.specs.Orderly.{IsOrderly}
 use Rattle.repo_state.specs.Keeping.{plain_of}
 use Rattle.repo_state.specs.Planning.{taken_up}
+use Rattle.repo_state.specs.Sizes.{sized}
 use Rattle.repo_state.proofs.Changing.{fit_set}
 use Rattle.repo_state.proofs.Effects.{begun_is, changed_view, either, fit_before, history_is, keeper_before, on_err, on_ok, placed, placed_there}
 use Rattle.repo_state.proofs.Effects.{unchanged_view}
-use Rattle.repo_state.proofs.Keepers.{keepers_set}
+use Rattle.repo_state.proofs.Keepers.{keepers_same, keepers_set}
 use Rattle.repo_state.proofs.Taken.{changed_leads, there_closed}
 use Rattle.repo_state.proofs.repo.Repo.take_up.Goals as goal
 
@@ -58,6 +59,9 @@ invariant_of-self c =
           (λ is. subst IsOrderly (sym (unchanged_view p new is)) (subst IsOrderly c.self.view_is c.self.invariant.2)),
       keepers_set c.self.inside.recent c.self.inside.workspaces.items c.in-Some.at (Some new)
           (λ keeps. keeper_before p c.self.inside.recent c.self.invariant.3 (c.take_up.ensures.kept keeps)) c.self.invariant.3,
+      keepers_same (sized c.self.inside.sizes.sizes.items) (sized c.grow.new.self.sizes.items) _ c.grow.ensures
+          (keepers_set (sized c.self.inside.sizes.sizes.items) c.self.inside.workspaces.items c.in-Some.at (Some new)
+          (λ keeps. keeper_before p (sized c.self.inside.sizes.sizes.items) c.self.invariant.4 (c.take_up.ensures.kept keeps)) c.self.invariant.4),
     )
 
 pub returns : goal.returns

@@ -4,10 +4,11 @@ use Rattle.plain_repository.specs.Orderly.{IsOrderly}
 use Rattle.op_form.specs.declared.event.Event.TheVariants.{Undo}
 use Rattle.plain_repository.specs.Local.{without_last}
 use Rattle.repo_state.specs.Keeping.{plain_of}
+use Rattle.repo_state.specs.Sizes.{sized}
 use Rattle.repo_state.proofs.Changing.{fit_set}
 use Rattle.repo_state.proofs.Could.{base_good, undo_can}
 use Rattle.repo_state.proofs.Effects.{begun_is, changed_view, effect_orderly, fit_before, history_is, keeper_before, placed, placed_there}
-use Rattle.repo_state.proofs.Keepers.{keepers_set}
+use Rattle.repo_state.proofs.Keepers.{keepers_same, keepers_set}
 use Rattle.repo_state.proofs.repo.Repo.undo.Goals as goal
 
 pub undo-requires-clause-can : goal.undo-requires-clause-can
@@ -62,6 +63,9 @@ invariant_of-self c =
           (changed_view p without_last new c.undo.ensures.undone),
       keepers_set c.self.inside.recent c.self.inside.workspaces.items c.in-Some.at (Some new)
           (λ keeps. keeper_before p c.self.inside.recent c.self.invariant.3 (c.undo.ensures.kept keeps)) c.self.invariant.3,
+      keepers_same (sized c.self.inside.sizes.sizes.items) (sized c.grow.new.self.sizes.items) _ c.grow.ensures
+          (keepers_set (sized c.self.inside.sizes.sizes.items) c.self.inside.workspaces.items c.in-Some.at (Some new)
+          (λ keeps. keeper_before p (sized c.self.inside.sizes.sizes.items) c.self.invariant.4 (c.undo.ensures.kept keeps)) c.self.invariant.4),
     )
 
 pub returns : goal.returns

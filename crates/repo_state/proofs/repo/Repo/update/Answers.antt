@@ -3,10 +3,11 @@ use Rattle.std.proofs.Common.{Some, subst, sym}
 use Rattle.plain_repository.specs.Orderly.{IsOrderly}
 use Rattle.repo_state.specs.Keeping.{plain_of}
 use Rattle.repo_state.specs.Planning.{restarted}
+use Rattle.repo_state.specs.Sizes.{sized}
 use Rattle.repo_state.proofs.Changing.{fit_set}
 use Rattle.repo_state.proofs.Could.{base_good}
 use Rattle.repo_state.proofs.Effects.{begun_is, changed_view, fit_before, history_is, keeper_before, placed, placed_there}
-use Rattle.repo_state.proofs.Keepers.{keepers_set}
+use Rattle.repo_state.proofs.Keepers.{keepers_same, keepers_set}
 use Rattle.repo_state.proofs.Taken.{restarted_leads, theirs_of_base, there_closed}
 use Rattle.repo_state.proofs.repo.Repo.update.Goals as goal
 
@@ -83,6 +84,9 @@ invariant_of-self c =
       subst IsOrderly (sym (changed_view p (restarted c.args.updated.base c.args.updated.operations) new c.update.ensures.updated)) c.requires.orderly,
       keepers_set c.self.inside.recent c.self.inside.workspaces.items c.in-Some.at (Some new)
           (λ keeps. keeper_before p c.self.inside.recent c.self.invariant.3 (c.update.ensures.kept keeps)) c.self.invariant.3,
+      keepers_same (sized c.self.inside.sizes.sizes.items) (sized c.grow.new.self.sizes.items) _ c.grow.ensures
+          (keepers_set (sized c.self.inside.sizes.sizes.items) c.self.inside.workspaces.items c.in-Some.at (Some new)
+          (λ keeps. keeper_before p (sized c.self.inside.sizes.sizes.items) c.self.invariant.4 (c.update.ensures.kept keeps)) c.self.invariant.4),
     )
 
 pub returns : goal.returns

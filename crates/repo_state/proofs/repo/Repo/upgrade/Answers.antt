@@ -18,4 +18,5 @@ invariant_of-self c =
           (upgrade_done c.self.inside.begun begun c.self.inside.workspaces.items c.self.inside.events c.self.inside.end s c.self.view_is c.in-Some.is
           orderly c.self.invariant.1),
       c.self.invariant.3,
+      c.self.invariant.4,
     )

@@ -1,6 +1,16 @@
+use Rattle.repo_state.specs.Sizes.{sized}
 use Rattle.repo_state.proofs.Changing.{order_same}
 use Rattle.repo_state.proofs.Keepers.{all_fit}
 use Rattle.repo_state.proofs.repo.Repo.weigh.Goals as goal
+
+pub invariant_of-self : goal.invariant_of-self
+invariant_of-self c = (
+  c.self.invariant.0,
+  c.self.invariant.1,
+  c.self.invariant.2,
+  c.self.invariant.3,
+  λ at keeps. c.note.ensures.stays at (c.self.invariant.4 at keeps),
+)
 
 pub invariant_of-self-2 : goal.invariant_of-self-2
 invariant_of-self-2 c = (
@@ -9,4 +19,5 @@ invariant_of-self-2 c = (
   order_same c.self.inside.begun c.self.inside.workspaces.items c.let_go.new.workspaces.items c.self.inside.events c.self.inside.end
       c.let_go.ensures.same c.self.invariant.2,
   λ at keeps. c.self.invariant.3 at (c.let_go.ensures.kept at keeps),
+  λ at keeps. c.let_go.ensures.sized at (c.note.ensures.stays at (c.self.invariant.4 at (c.let_go.ensures.kept at keeps))) keeps,
 )
