@@ -1,3 +1,5 @@
 pub mod Results
 pub mod ListLaws
+pub mod JoinLaws
+mod ShiftLaws
 mod Flat

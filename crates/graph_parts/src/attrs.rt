@@ -1,6 +1,7 @@
 //! The values of an element's attributes.
-ghost use Rattle.std.specs.Prelude.{◌≡◌, ℕ, List, Some, None, OnOk, OnErr, IfOk, IsSome, unwrap_or, [], nat_eq, position};
+ghost use Rattle.std.specs.Prelude.{◌≡◌, ℕ, List, Some, None, OnOk, OnErr, IfOk, IsSome, nat_eq, position};
 ghost use Rattle.std.specs.Borrow.{sem};
+ghost use Rattle.std.specs.Option.{option_copied};
 ghost use Rattle.std.specs.FinMap.{get, empty};
 ghost use Rattle.finite_maps.specs.Maps.{set};
 ghost use Rattle.spread_maps.specs.Spread.{is_bare};
@@ -9,6 +10,7 @@ ghost use Rattle.graph_parts.specs.Parts.{flat};
 
 use crate::by_feature::{add, index_of, without};
 use crate::copies::copied_attrs;
+use crate::value_list::ValueList;
 use ecore_meta::Value;
 use std::alloc::{AllocError, Global};
 use std::marker::Model;
@@ -18,7 +20,7 @@ use texts::List;
 /// searched from its beginning, and makes room for one attribute at a time.
 #[derive(Drop)]
 pub struct Attrs {
-    items: Vec<(u32, List<Value>)>,
+    items: Vec<(u32, ValueList)>,
 }
 
 impl Model for Attrs {
@@ -31,21 +33,12 @@ impl Model for Attrs {
     ghost view = { λ a. flat a.items.items };
 }
 
-/// The same values, in no more memory than they need.
-fn trimmed(values: List<Value>) -> List<Value>
-    ensures { result ≡ values }
-{
-    let mut items = values.into_vec();
-    items.shrink_to_fit();
-    List::from_vec(items)
-}
-
 /// Gives the attribute at an index other values. This takes no memory.
-fn write_at(items: &mut Vec<(u32, List<Value>)>, f: u32, at: usize, values: List<Value>)
+fn write_at(items: &mut Vec<(u32, ValueList)>, f: u32, at: usize, values: List<Value>)
     requires { position (λ (e : ℕ × List Value). nat_eq e.0 f) items.old.items ≡ Some at }
     ensures { flat items.new.items ≡ set (flat items.old.items) f (Some values) }
 {
-    items[at] = (f, trimmed(values));
+    items[at] = (f, ValueList::from_list(values));
 }
 
 impl Attrs {
@@ -60,13 +53,13 @@ impl Attrs {
         }
     }
 
-    /// The values of an attribute, none where it isn't set.
-    pub fn find(&self, f: u32) -> &[Value]
-        ensures { result.now ≡ unwrap_or (get self.now f) [] }
+    /// The values of an attribute, `None` where it isn't set.
+    pub fn find(&self, f: u32) -> Option<&ValueList>
+        ensures { option_copied result ≡ get self.now f }
     {
         match index_of(self.items.as_slice(), f) {
-            None => &[],
-            Some(at) => self.items[at].1.as_slice(),
+            None => None,
+            Some(at) => Some(&self.items[at].1),
         }
     }
 
@@ -93,7 +86,7 @@ impl Attrs {
         ensures err { OnErr result (self.new ≡ self.old) }
     {
         match index_of(self.items.as_slice(), f) {
-            None => add(&mut self.items, f, trimmed(values)),
+            None => add(&mut self.items, f, ValueList::from_list(values)),
             Some(at) => {
                 write_at(&mut self.items, f, at, values);
                 Ok(())
@@ -103,7 +96,7 @@ impl Attrs {
 
     /// The values of an attribute that is set, to be changed where they stand. An attribute without values isn't set, so
     /// a caller leaves some.
-    pub fn find_mut(&mut self, f: u32) -> &mut List<Value>
+    pub fn find_mut(&mut self, f: u32) -> &mut ValueList
         requires { IsSome (get self.old f) }
         ensures* writes_back { sem 𝓛 (lends_values self.entry f result) }
         ensures value { get self.old f ≡ Some result.now }

@@ -7,23 +7,11 @@ ghost use Rattle.finite_maps.specs.Maps.{set_all};
 ghost use Rattle.finite_maps.specs.Tables.{table};
 ghost use Rattle.model_state.specs.Keys.{attr_cmp};
 
-use ecore_meta::Value;
+use crate::value_list::ValueList;
 use model_state::Id;
 use ranked_lists::RankedList;
 use std::alloc::{AllocError, Global};
 use std::collections::BTreeMap;
-use texts::List;
-
-/// The same values in memory of their own, and in no more than they need.
-fn copied_values(alloc: Global, values: &[Value]) -> Result<List<Value>, AllocError>
-    ensures { IfOk result (λ l. l ≡ values.now) }
-{
-    let mut copy = Vec::with_capacity(alloc, values.len())?;
-    for v in values {
-        copy.push(v.copy(alloc)?)?;
-    }
-    Ok(List::from_vec(copy))
-}
 
 /// The same references in memory of their own.
 pub fn copied_sources(
@@ -43,13 +31,13 @@ pub fn copied_sources(
 /// The same attributes in memory of their own, and in no more than they need.
 pub fn copied_attrs(
     alloc: Global,
-    items: &[(u32, List<Value>)],
-) -> Result<Vec<(u32, List<Value>)>, AllocError>
+    items: &[(u32, ValueList)],
+) -> Result<Vec<(u32, ValueList)>, AllocError>
     ensures { IfOk result (λ v. v.items ≡ items.now) }
 {
     let mut copy = Vec::with_capacity(alloc, items.len())?;
     for item in items {
-        copy.push((item.0, copied_values(alloc, item.1.as_slice())?))?;
+        copy.push((item.0, item.1.copy(alloc)?))?;
     }
     Ok(copy)
 }

@@ -8,8 +8,11 @@ mod by_feature;
 mod copies;
 mod element;
 mod feature_lists;
+mod pieces;
+mod value_list;
 
 pub use arrivals::Arrivals;
 pub use attrs::Attrs;
 pub use element::Node;
 pub use feature_lists::FeatureLists;
+pub use value_list::ValueList;

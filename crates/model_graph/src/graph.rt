@@ -12,14 +12,12 @@ ghost use Rattle.model_state.specs.Keys.{IdBytes, id_cmp};
 ghost use Rattle.model_graph.specs.Seen.{Rewrites, either_node};
 
 use crate::writes::{drop_into, drop_out, put_into, put_out, rewrite_into};
-use ecore_meta::Value;
-use graph_parts::Node;
+use graph_parts::{Node, ValueList};
 use model_state::Id;
 use nodes::Nodes;
 use ranked_lists::RankedList;
 use std::alloc::{AllocError, Global};
 use std::marker::Model;
-use texts::List;
 
 /// A model over elements in slots, which contracts see as its state.
 ///
@@ -145,7 +143,7 @@ impl Graph {
 
     /// The values of an attribute that is set, to be changed where they stand. A caller leaves some, as an attribute without
     /// values isn't set.
-    pub(crate) fn values_mut(&mut self, e: &Id, f: u32) -> &mut List<Value>
+    pub(crate) fn values_mut(&mut self, e: &Id, f: u32) -> &mut ValueList
         requires { IsSome (get self.old.attr (e.now, f)) }
         ensures* writes_back { sem 𝓛 (lends_attr self.entry e.now f result) }
         ensures value { get self.old.attr (e.now, f) ≡ Some result.now }

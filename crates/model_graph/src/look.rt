@@ -10,7 +10,7 @@ ghost use Rattle.model_graph.specs.Seen.{standing};
 use crate::Graph;
 use crate::graph::rank_out;
 use ecore_meta::Value;
-use graph_parts::Node;
+use graph_parts::{Node, ValueList};
 use model_state::{Entry, Id, Incoming, Look, Place, Placed};
 use nodes::Nodes;
 use ranked_lists::RankedList;
@@ -44,6 +44,18 @@ pub(crate) fn children_of<'a>(
     }
 }
 
+impl Graph {
+    /// The values of an attribute, `None` where it isn't set.
+    fn values_of(&self, e: &Id, f: u32) -> Option<&ValueList>
+        ensures { option_copied result ≡ get self.now.attr (e.now, f) }
+    {
+        match self.nodes.find(e) {
+            None => None,
+            Some(node) => node.attrs.find(f),
+        }
+    }
+}
+
 impl Look for Graph {
     ghost state = { λ g. g };
 
@@ -61,10 +73,31 @@ impl Look for Graph {
         }
     }
 
-    fn attr(&self, e: &Id, f: u32) -> &[Value] {
-        match self.nodes.find(e) {
-            None => &[],
-            Some(node) => node.attrs.find(f),
+    fn attr_len(&self, e: &Id, f: u32) -> usize {
+        match self.values_of(e, f) {
+            None => 0,
+            Some(values) => values.len(),
+        }
+    }
+
+    fn attr_at(&self, e: &Id, f: u32, at: usize) -> Option<&Value> {
+        match self.values_of(e, f) {
+            None => None,
+            Some(values) => values.get(at),
+        }
+    }
+
+    fn attr_has(&self, e: &Id, f: u32, v: &Value) -> bool {
+        match self.values_of(e, f) {
+            None => false,
+            Some(values) => values.has(v),
+        }
+    }
+
+    fn attr(&self, alloc: Global, e: &Id, f: u32) -> Result<List<Value>, AllocError> {
+        match self.values_of(e, f) {
+            None => Ok(List::new(alloc)),
+            Some(values) => values.list(alloc),
         }
     }
 

@@ -8,7 +8,7 @@ use ecore_meta::{Metamodel, Value};
 use graph_parts::Node;
 use model_state::{Change, Id, Look, Place, Placed, Step, StepFault};
 use std::alloc::{AllocError, Global};
-use step_rules::{Write, insert_in, remove_in, shift_in, take_step};
+use step_rules::{Write, take_step};
 use texts::List;
 
 impl Write for Graph {
@@ -80,20 +80,21 @@ impl Write for Graph {
         v: &Value,
     ) -> Result<(), AllocError> {
         let v = v.copy(alloc)?;
-        if self.attr(e, f).len() == 0 {
+        if self.attr_len(e, f) == 0 {
             let mut values = List::new(alloc);
-            insert_in(alloc, &mut values, at, v)?;
+            values.insert(at, v)?;
             return self.put_values(e, f, values);
         }
-        insert_in(alloc, self.values_mut(e, f), at, v)
+        self.values_mut(e, f).insert(alloc, at, v)
     }
 
     fn remove_value(&mut self, alloc: Global, e: &Id, f: u32, at: usize) -> Result<(), AllocError> {
-        if self.attr(e, f).len() == 1 {
+        let _alloc = alloc;
+        if self.attr_len(e, f) == 1 {
             drop_attr(&mut self.nodes, e, f);
             return Ok(());
         }
-        remove_in(alloc, self.values_mut(e, f), at);
+        self.values_mut(e, f).remove(at);
         Ok(())
     }
 
@@ -105,8 +106,7 @@ impl Write for Graph {
         from: usize,
         to: usize,
     ) -> Result<(), AllocError> {
-        shift_in(alloc, self.values_mut(e, f), from, to);
-        Ok(())
+        self.values_mut(e, f).shift(alloc, from, to)
     }
 
     fn join(

@@ -1,4 +1,4 @@
-//! Copies of steps, one function a kind that has several parts.
+//! Copies of values and of steps, one function a kind of step that has several parts.
 ghost use Rattle.std.specs.Prelude.{◌≡◌, IfOk};
 ghost use Rattle.model_state.specs.declared.step.Step.TheVariants.{Put, Ins, Del, Shift, Link, Unlink, RerankRow, New, Gone, Move, RerankPlace};
 
@@ -6,6 +6,17 @@ use crate::{Id, Place, Step};
 use ecore_meta::{Boxed, Value};
 use std::alloc::{AllocError, Global};
 use texts::List;
+
+/// The same values in memory of their own, and in no more than they need.
+pub fn copied_values(alloc: Global, values: &[Value]) -> Result<List<Value>, AllocError>
+    ensures { IfOk result (λ l. l ≡ values.now) }
+{
+    let mut copy = Vec::with_capacity(alloc, values.len())?;
+    for v in values {
+        copy.push(v.copy(alloc)?)?;
+    }
+    Ok(List::from_vec(copy))
+}
 
 /// A copy of a value that may be missing.
 pub fn copy_value(alloc: Global, v: &Option<Value>) -> Result<Option<Value>, AllocError>

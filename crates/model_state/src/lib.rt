@@ -14,7 +14,7 @@ mod step;
 mod typing;
 
 pub use containers::chain;
-pub use copies::copy_value;
+pub use copies::{copied_values, copy_value};
 pub use entry::{Entry, Incoming};
 pub use id::{Id, IdFault};
 pub use look::{Change, Look};

@@ -10,7 +10,7 @@ use crate::kinds::Kinds;
 use crate::places::Places;
 use crate::rows::Rows;
 use ecore_meta::Value;
-use model_state::{Entry, Id, Incoming, Look, Place, Placed};
+use model_state::{Entry, Id, Incoming, Look, Place, Placed, contains, copied_values};
 use std::alloc::{AllocError, Global};
 use texts::List;
 
@@ -52,8 +52,20 @@ impl Look for Plain {
         self.places.find(e)
     }
 
-    fn attr(&self, e: &Id, f: u32) -> &[Value] {
-        self.attrs.find(e, f)
+    fn attr_len(&self, e: &Id, f: u32) -> usize {
+        self.attrs.find(e, f).len()
+    }
+
+    fn attr_at(&self, e: &Id, f: u32, at: usize) -> Option<&Value> {
+        self.attrs.find(e, f).get(at)
+    }
+
+    fn attr_has(&self, e: &Id, f: u32, v: &Value) -> bool {
+        contains(self.attrs.find(e, f), v)
+    }
+
+    fn attr(&self, alloc: Global, e: &Id, f: u32) -> Result<List<Value>, AllocError> {
+        copied_values(alloc, self.attrs.find(e, f))
     }
 
     fn row(&self, a: &Id, f: u32, b: &Id) -> Option<u64> {

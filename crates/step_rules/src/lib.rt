@@ -3,7 +3,6 @@
 
 mod births;
 mod links;
-mod lists;
 mod many;
 mod moves;
 mod queries;
@@ -11,6 +10,5 @@ mod take;
 mod values;
 mod write;
 
-pub use lists::{insert_in, remove_in, shift_in};
 pub use take::take_step;
 pub use write::Write;

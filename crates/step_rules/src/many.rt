@@ -1,29 +1,17 @@
 //! The rules of Ins, Del and Shift, by which the list of a many-valued attribute changes.
-ghost use Rattle.std.specs.Prelude.{◌≡◌, OnOk, OnErr, IfErr, Some, slice_get};
-ghost use Rattle.finite_maps.specs.Equal.{option_eq};
-ghost use Rattle.model_state.specs.Typing.{value_eq};
+ghost use Rattle.std.specs.Prelude.{◌≡◌, OnOk, OnErr, IfErr};
 ghost use Rattle.model_state.specs.Steps.{Can, fault, apply};
 ghost use Rattle.model_state.specs.Faults.{IsFault};
 ghost use Rattle.model_state.specs.Good.{Good};
 ghost use Rattle.model_state.specs.declared.step.Step.TheVariants.{Ins, Del, Shift};
 
 use crate::Write;
+use crate::queries::has_at;
 use ecore_meta::{Metamodel, Value};
 use model_state::{
-    Id, MOST_ENTRIES, StepFault, class_has, contains, is_below_bound, is_many, is_same_value,
-    is_unique, many_fits, upper_of,
+    Id, MOST_ENTRIES, StepFault, class_has, is_below_bound, is_many, is_unique, many_fits, upper_of,
 };
 use std::alloc::Global;
-
-/// Whether the value at a place of the list is that one.
-fn has_at(values: &[Value], at: usize, v: &Value) -> bool
-    ensures { result ≡ option_eq value_eq (slice_get values.now at) (Some v.now) }
-{
-    match values.get(at) {
-        None => false,
-        Some(x) => is_same_value(x, v),
-    }
-}
 
 /// Takes a step of the kind Ins.
 pub fn take_ins<S: Write>(
@@ -53,11 +41,11 @@ pub fn take_ins<S: Write>(
     if !many_fits(meta, f, v) {
         return Err(StepFault::WrongType);
     }
-    let count = model.attr(e, f).len();
+    let count = model.attr_len(e, f);
     if at as usize > count {
         return Err(StepFault::BadStep);
     }
-    if is_unique(meta, f) && contains(model.attr(e, f), v) {
+    if is_unique(meta, f) && model.attr_has(e, f, v) {
         return Err(StepFault::There);
     }
     if !is_below_bound(count, upper_of(meta, f)) {
@@ -100,10 +88,10 @@ pub fn take_del<S: Write>(
     if !many_fits(meta, f, v) {
         return Err(StepFault::WrongType);
     }
-    if at as usize >= model.attr(e, f).len() {
+    if at as usize >= model.attr_len(e, f) {
         return Err(StepFault::BadStep);
     }
-    if !has_at(model.attr(e, f), at as usize, v) {
+    if !has_at(model, e, f, at as usize, v) {
         return Err(StepFault::OldDiffers);
     }
     match model.remove_value(alloc, e, f, at as usize) {
@@ -140,7 +128,7 @@ pub fn take_shift<S: Write>(
     if from == to {
         return Err(StepFault::BadStep);
     }
-    let count = model.attr(e, f).len();
+    let count = model.attr_len(e, f);
     if from as usize >= count {
         return Err(StepFault::BadStep);
     }

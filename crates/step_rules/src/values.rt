@@ -3,6 +3,7 @@ ghost use Rattle.std.specs.Prelude.{◌≡◌, OnOk, OnErr, IfOk, IfErr, [], unw
 ghost use Rattle.std.specs.FinMap.{get};
 ghost use Rattle.finite_maps.specs.Maps.{set};
 ghost use Rattle.finite_maps.specs.Equal.{option_eq, list_eq};
+ghost use Rattle.model_state.specs.Listing.{values_at};
 ghost use Rattle.model_state.specs.Lists.{entry_of};
 ghost use Rattle.model_state.specs.State.{is_live};
 ghost use Rattle.model_state.specs.Typing.{value_eq};
@@ -12,10 +13,9 @@ ghost use Rattle.model_state.specs.Good.{Good};
 ghost use Rattle.model_state.specs.declared.step.Step.TheVariants.{Put};
 
 use crate::Write;
+use crate::queries::has_at;
 use ecore_meta::{Metamodel, Value};
-use model_state::{
-    Id, StepFault, attr_fits, class_has, is_attr, is_default, is_same_option, is_same_value,
-};
+use model_state::{Id, StepFault, attr_fits, class_has, is_attr, is_default, is_same_option};
 use std::alloc::{AllocError, Global};
 use texts::List;
 
@@ -37,15 +37,15 @@ fn is_no_default(meta: &Metamodel, f: u32, v: &Option<Value>) -> bool
     }
 }
 
-/// Whether a list is just the value, or empty where there is none.
-fn is_just(list: &[Value], v: &Option<Value>) -> bool
-    ensures { result ≡ list_eq value_eq list.now (unwrap_or (single v.now) []) }
+/// Whether the values of an attribute are just the one, or none where there is none.
+fn is_just<S: Write>(model: &S, e: &Id, f: u32, v: &Option<Value>) -> bool
+    ensures { result ≡ list_eq value_eq (values_at (S.state model.now) e.now f) (unwrap_or (single v.now) []) }
 {
     match v {
-        None => list.is_empty(),
+        None => model.attr_len(e, f) == 0,
         Some(v) => {
-            if list.len() == 1 {
-                is_same_value(&list[0], v)
+            if model.attr_len(e, f) == 1 {
+                has_at(model, e, f, 0, v)
             } else {
                 false
             }
@@ -58,7 +58,7 @@ fn has_value<S: Write>(model: &S, meta: &Metamodel, e: &Id, f: u32, v: &Option<V
     requires { Good meta.now (S.state model.now) }
     ensures { result ≡ option_eq (list_eq value_eq) (get (S.state model.now).attr (e.now, f)) (single v.now) }
 {
-    is_just(model.attr(e, f), v)
+    is_just(model, e, f, v)
 }
 
 /// The list of a value that may be missing.

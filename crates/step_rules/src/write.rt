@@ -8,7 +8,6 @@ ghost use Rattle.model_state.specs.Lists.{entry_of, shifted};
 ghost use Rattle.model_state.specs.State.{is_live, place_eq, value_count, link_count, inner_count};
 ghost use Rattle.model_state.specs.Steps.{place_live, mirror_given, mirror_write};
 
-use crate::lists::{copied, insert_in, remove_in, shift_in};
 use ecore_meta::Value;
 use model_state::{Id, Look, Place};
 use std::alloc::{AllocError, Global};
@@ -66,8 +65,8 @@ pub trait Write: Look {
         ensures ok { OnOk result (Self.state self.new ≡ record (Self.state self.old) { attr = set (Self.state self.old).attr (e.now, f) (entry_of (insert (values_at (Self.state self.old) e.now f) at v.now)) }) }
         ensures err { OnErr result (Self.state self.new ≡ Self.state self.old) }
     {
-        let mut values = copied(alloc, self.attr(e, f))?;
-        insert_in(alloc, &mut values, at, v.copy(alloc)?)?;
+        let mut values = self.attr(alloc, e, f)?;
+        values.insert(at, v.copy(alloc)?)?;
         self.put_values(e, f, values)
     }
 
@@ -78,8 +77,8 @@ pub trait Write: Look {
         ensures ok { OnOk result (Self.state self.new ≡ record (Self.state self.old) { attr = set (Self.state self.old).attr (e.now, f) (entry_of (remove (values_at (Self.state self.old) e.now f) at)) }) }
         ensures err { OnErr result (Self.state self.new ≡ Self.state self.old) }
     {
-        let mut values = copied(alloc, self.attr(e, f))?;
-        remove_in(alloc, &mut values, at);
+        let mut values = self.attr(alloc, e, f)?;
+        drop(values.remove(at));
         self.put_values(e, f, values)
     }
 
@@ -98,8 +97,9 @@ pub trait Write: Look {
         ensures ok { OnOk result (Self.state self.new ≡ record (Self.state self.old) { attr = set (Self.state self.old).attr (e.now, f) (entry_of (shifted (values_at (Self.state self.old) e.now f) from to)) }) }
         ensures err { OnErr result (Self.state self.new ≡ Self.state self.old) }
     {
-        let mut values = copied(alloc, self.attr(e, f))?;
-        shift_in(alloc, &mut values, from, to);
+        let mut values = self.attr(alloc, e, f)?;
+        let v = values.remove(from);
+        values.insert(to, v)?;
         self.put_values(e, f, values)
     }
 

@@ -6,5 +6,5 @@ use Rattle.graph_parts.proofs.attrs.write_at.Goals as goal
 
 pub returns : goal.returns
 returns c =
-    ap (λ v. flat (slice_set c.args.items.now.items c.args.at (c.args.f, v))) c.trimmed.ensures
+    ap (λ v. flat (slice_set c.args.items.now.items c.args.at (c.args.f, v))) c.from_list.ensures
     ∙ flat_set c.args.f c.args.values c.args.items.now.items c.args.at c.requires

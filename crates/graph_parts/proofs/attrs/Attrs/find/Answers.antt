@@ -1,5 +1,5 @@
-use Rattle.std.proofs.Common.{ℕ, List, [], nat_eq, sym, ap, ◌∙◌}
-use Rattle.std.specs.Prelude.{unwrap_or, slice_index_or}
+use Rattle.std.proofs.Common.{ℕ, List, nat_eq, sym, ap, ◌∙◌}
+use Rattle.std.specs.Prelude.{Some, slice_index_or}
 use Rattle.std.specs.Option.{option_map}
 use Rattle.std.specs.FinMap.{get}
 use Rattle.ecore_meta.specs.declared.meta.Value.{Value}
@@ -15,7 +15,7 @@ returns-in-None c =
     let none = feature_found xs f
     ∙ ap (option_map (λ (e : ℕ × List Value). e.1))
     (position_none (λ (e : ℕ × List Value). nat_eq e.0 f) xs (sym c.index_of.ensures ∙ c.in-None.is)) in
-    ap (λ o. unwrap_or o []) (sym none ∙ sym (get-flat xs f) ∙ ap (λ es. get (flat es) f) c.as_slice.ensures.value ∙ ap (λ m. get m f) c.self.view_is)
+    sym none ∙ sym (get-flat xs f) ∙ ap (λ es. get (flat es) f) c.as_slice.ensures.value ∙ ap (λ m. get m f) c.self.view_is
 
 pub returns-in-Some : goal.returns-in-Some
 returns-in-Some c =
@@ -25,5 +25,5 @@ returns-in-Some c =
     let some = feature_found xs f ∙ ap (option_map (λ (e : ℕ × List Value). e.1)) at.3 in
     let index = c.index.ensures ∙ ap (λ es. slice_index_or es c.in-Some.at c.index.result.now) (sym c.as_slice.ensures.value)
     ∙ index_is xs c.in-Some.at c.index.result.now at.0 at.1 in
-    c.as_slice-in-Some.ensures ∙ ap (λ (e : ℕ × List Value). e.1) index
-    ∙ ap (λ o. unwrap_or o []) (sym some ∙ sym (get-flat xs f) ∙ ap (λ es. get (flat es) f) c.as_slice.ensures.value ∙ ap (λ m. get m f) c.self.view_is)
+    ap (λ (e : ℕ × List Value). Some e.1) index
+    ∙ sym some ∙ sym (get-flat xs f) ∙ ap (λ es. get (flat es) f) c.as_slice.ensures.value ∙ ap (λ m. get m f) c.self.view_is

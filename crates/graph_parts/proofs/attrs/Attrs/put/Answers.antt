@@ -16,7 +16,7 @@ write_at-requires c =
 
 pub returns-in-None-clause-ok : goal.returns-in-None-clause-ok
 returns-in-None-clause-ok c =
-    on_ok_weaker c.add.result (λ is. is ∙ (λ i. set (c.self.view_is i) c.args.f (Some (c.trimmed.ensures i)))) c.add.ensures.ok
+    on_ok_weaker c.add.result (λ is. is ∙ (λ i. set (c.self.view_is i) c.args.f (Some (c.from_list.ensures i)))) c.add.ensures.ok
 
 pub returns-in-None-clause-err : goal.returns-in-None-clause-err
 returns-in-None-clause-err c = on_err_weaker c.add.result (λ is. ap flat is ∙ c.self.view_is) c.add.ensures.err

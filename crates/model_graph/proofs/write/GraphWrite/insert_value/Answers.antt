@@ -10,6 +10,6 @@ returns-clause-err c =
     let s = c.args.self.now in
     let e = c.args.e.now in
     let f = c.args.f in
-    on_err_weaker c.insert_in-2.result
+    on_err_weaker c.insert-2.result
     (λ is. ap (λ vs. record s { attr = set s.attr (e, f) (Some vs) }) is ∙ same_values s e f c.values_mut.result.now c.values_mut.ensures.value)
-    c.insert_in-2.ensures.err
+    c.insert-2.ensures.err

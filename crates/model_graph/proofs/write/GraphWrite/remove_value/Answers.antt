@@ -1,4 +1,4 @@
-use Rattle.std.proofs.Common.{sym, ap, ◌∙◌, length}
+use Rattle.std.proofs.Common.{sym, ap, ◌∙◌}
 use Rattle.std.specs.Prelude.{None}
 use Rattle.finite_maps.specs.Maps.{set}
 use Rattle.model_state.specs.Listing.{values_at}
@@ -14,8 +14,8 @@ pub invariant_of-self : goal.invariant_of-self
 invariant_of-self c = attr_kept c.self.inside.roots c.self.inside.nodes c.drop_attr.new.nodes c.args.self.now c.args.e.now c.args.f None
     c.self.view_is c.drop_attr.ensures c.self.invariant
 
-pub returns-then-attr-eq1-clause-ok : goal.returns-then-attr-eq1-clause-ok
-returns-then-attr-eq1-clause-ok c =
+pub returns-then-attr_len-eq1-clause-ok : goal.returns-then-attr_len-eq1-clause-ok
+returns-then-attr_len-eq1-clause-ok c =
     attr_state c.self.inside.roots c.self.inside.nodes c.drop_attr.new.nodes c.args.self.now c.args.e.now c.args.f None c.self.view_is c.drop_attr.ensures
     ∙ ap (λ v. record c.args.self.now { attr = set c.args.self.now.attr (c.args.e.now, c.args.f) v })
-    (removed_last (values_at c.args.self.now c.args.e.now c.args.f) c.args.at c.requires.at (ap length (sym c.attr.ensures) ∙ c.if-attr-eq1.true))
+    (removed_last (values_at c.args.self.now c.args.e.now c.args.f) c.args.at c.requires.at (sym c.attr_len.ensures ∙ c.if-attr_len-eq1.true))
