@@ -5,7 +5,7 @@ use Rattle.ecore_meta.specs.Meta.{Meta}
 use Rattle.ecore_meta.specs.Typing.{fits, kind_of, literal_count}
 use Rattle.ecore_meta.specs.declared.meta.Feature.{Feature}
 use Rattle.ecore_meta.specs.declared.meta.Kind.{Kind}
-use Rattle.ecore_meta.specs.declared.meta.Kind.TheVariants.{Attr, AttrMany}
+use Rattle.ecore_meta.specs.declared.meta.Kind.TheVariants.{Attr, AttrMany, Bounded, Free, Contains, Container, Skip}
 use Rattle.ecore_meta.specs.declared.meta.Scalar.{Scalar}
 use Rattle.ecore_meta.specs.declared.meta.Scalar.TheVariants.{Literal}
 use Rattle.ecore_meta.specs.declared.meta.Value.{Value}
@@ -14,7 +14,11 @@ use Rattle.ecore_meta.specs.declared.meta.Value.{Value}
 abbrev pub scalar_in : Kind → Option Scalar
 scalar_in (Attr s default) = Some s
 scalar_in (AttrMany s unique) = Some s
-scalar_in k = None
+scalar_in (Bounded target opposite) = None
+scalar_in (Free target opposite) = None
+scalar_in (Contains target opposite) = None
+scalar_in (Container target opposite) = None
+scalar_in Skip = None
 
 -- owners and targets are classes of the metamodel, an attribute's enum is one that has a literal, and a default is of its type
 pub record IsInRange (meta : Meta) : Type 0 where

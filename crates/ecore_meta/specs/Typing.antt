@@ -5,7 +5,7 @@ use Rattle.ecore_meta.specs.Meta.{Meta, has_feature, is_a}
 use Rattle.ecore_meta.specs.declared.meta.Enum.{Enum}
 use Rattle.ecore_meta.specs.declared.meta.EnumLiteral.{EnumLiteral}
 use Rattle.ecore_meta.specs.declared.meta.Kind.{Kind}
-use Rattle.ecore_meta.specs.declared.meta.Kind.TheVariants.{Bounded, Free, Skip}
+use Rattle.ecore_meta.specs.declared.meta.Kind.TheVariants.{Attr, AttrMany, Bounded, Free, Contains, Container, Skip}
 use Rattle.ecore_meta.specs.declared.meta.Scalar.{Scalar}
 use Rattle.ecore_meta.specs.declared.meta.Scalar.TheVariants.{Text as TextType, Flag as FlagType, Byte, Short, Int, Long, Literal as LiteralType}
 use Rattle.ecore_meta.specs.declared.meta.Value.{Value}
@@ -72,9 +72,13 @@ is_one (Some n) = nat_eq n 1
 
 -- the opposite of a plain feature
 abbrev pub opposite_in : Kind → Option ℕ
+opposite_in (Attr scalar default) = None
+opposite_in (AttrMany scalar unique) = None
 opposite_in (Bounded target opposite) = opposite
 opposite_in (Free target opposite) = opposite
-opposite_in k = None
+opposite_in (Contains target opposite) = None
+opposite_in (Container target opposite) = None
+opposite_in Skip = None
 
 -- the opposite of the feature of that number
 abbrev pub opposite_of : Meta → ℕ → Option ℕ
@@ -82,9 +86,13 @@ opposite_of meta f = opposite_in (kind_of meta f)
 
 -- a plain reference to elements of a class
 abbrev pub plain_to : Meta → Kind → ℕ → Bool
+plain_to meta (Attr scalar default) d = false
+plain_to meta (AttrMany scalar unique) d = false
 plain_to meta (Bounded target opposite) d = is_a meta d target
 plain_to meta (Free target opposite) d = is_a meta d target
-plain_to meta k d = false
+plain_to meta (Contains target opposite) d = false
+plain_to meta (Container target opposite) d = false
+plain_to meta Skip d = false
 
 -- an element of class c may have a link by the feature to one of class d
 abbrev pub links : Meta → ℕ → ℕ → ℕ → Bool

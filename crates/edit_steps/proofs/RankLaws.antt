@@ -1,15 +1,13 @@
 -- How many entries lists have.
-use Rattle.std.proofs.Common.{◌≡◌, ℕ, suc, ◌+◌, Bool, true, false, cond, List, [], ◌∷◌, refl, ◌∙◌, ◌&&◌, length, map, arith, not, ◌≤◌, ◌<◌}
-use Rattle.std.specs.FinMap.{FinMap, entries}
+use Rattle.std.proofs.Common.{ℕ, suc, ◌+◌, true, false, cond, List, [], ◌∷◌, length, arith, not, ◌≤◌, ◌<◌}
+use Rattle.std.specs.FinMap.{FinMap}
 use Rattle.finite_maps.specs.Equal.{text_eq}
 use Rattle.model_state.specs.declared.entry.Entry.{Entry}
-use Rattle.model_state.specs.Keys.{IdBytes, RowKey, row_cmp}
-use Rattle.model_state.specs.Listing.{targets, entry_cmp, row_entry, is_of}
-use Rattle.finite_maps.specs.Maps.{tally, count}
-use Rattle.finite_maps.specs.Sorts.{picked}
-use Rattle.finite_maps.proofs.SortLaws.{tally-in_order, tally-map}
+use Rattle.model_state.specs.Keys.{IdBytes, row_cmp}
+use Rattle.model_state.specs.Listing.{targets}
+use Rattle.finite_maps.specs.Maps.{tally}
 use Rattle.edit_steps.specs.References.{without_entry}
-use Rattle.edit_steps.proofs.Lists.{tally-filter, one_passes}
+use Rattle.edit_steps.proofs.Lists.{one_passes}
 
 -- as many entries as those that stay and those that are removed
 stay_or_go : (b : IdBytes) (xs : List Entry) → length xs ≤ length (without_entry b xs) + tally (λ (x : Entry). text_eq b x.id) xs

@@ -1,7 +1,8 @@
 //! Single edits of a model: what each leaves, defined without steps, when it is refused, and the calls that make its steps.
 //! An attribute or a reference gets other values; a reference and its opposite change together, but where an entry moves within
 //! its list. An element is created in a place, moved, or deleted with all that it contains. The laws say that the steps lead to
-//! what the edit is to leave. A law is the contract of a function that does nothing.
+//! what the edit is to leave, where its entries stand then, and what subtrees and containers are. A law is the contract of a
+//! function that does nothing.
 #![tactic(auto)]
 
 mod bounds;

@@ -1,7 +1,7 @@
 //! The insertion of a target into a list of references, with its opposite.
 ghost use Rattle.std.specs.Prelude.{◌≡◌, true, false, IfOk, OnOk, IfErr, None, is_some, length, unwrap_or};
 ghost use Rattle.std.specs.FinMap.{get};
-ghost use Rattle.model_state.specs.Good.{Good, Sound};
+ghost use Rattle.model_state.specs.Good.{Good};
 ghost use Rattle.model_state.specs.Listing.{targets};
 ghost use Rattle.edit_steps.specs.Rows.{link_step};
 ghost use Rattle.edit_steps.specs.References.{holds_one, link_made};
@@ -118,7 +118,6 @@ pub fn link_steps<L: Look>(
     ensures taken { OnOk result (link_refusal meta.now (L.state look.now) a.now f b.now at ≡ None) }
     ensures refused { IfErr result (λ e. IsRefusal (link_refusal meta.now (L.state look.now) a.now f b.now at) e) }
 {
-    meta.recall_soundness();
     if !may_link(meta, look.class(a), f, look.class(b)) {
         return Err(LinkFault::WrongType);
     }

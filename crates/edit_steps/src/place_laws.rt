@@ -30,7 +30,8 @@ pub fn law_of_subtrees()
     ensures live { SubtreeIsLive }
 {}
 
-/// A place has one chain of containers, which is a function of the model.
+/// A place has at most one chain of containers. Where it has one, that is the list which the definition of its containers
+/// gives.
 pub fn law_of_containers()
     ensures { ContainersAreChain }
 {}

@@ -1,7 +1,7 @@
 //! The move of a target within its list of references, by its rank.
 ghost use Rattle.std.specs.Prelude.{◌≡◌, ◌<◌, true, ◌++◌, ◌∷◌, [], IfOk, OnOk, IfErr, None, is_some, not, length};
 ghost use Rattle.std.specs.FinMap.{get};
-ghost use Rattle.model_state.specs.Good.{Good, Sound};
+ghost use Rattle.model_state.specs.Good.{Good};
 ghost use Rattle.edit_steps.specs.Spot.{rank_for, ranks_of, spot};
 ghost use Rattle.edit_steps.specs.Rows.{reranks};
 ghost use Rattle.edit_steps.specs.References.{reorder_made, stands_at, without_entry};
@@ -87,7 +87,6 @@ pub fn reorder_steps<L: Look>(
     ensures taken { OnOk result (reorder_refusal (L.state look.now) a.now f b.now at ≡ None) }
     ensures refused { IfErr result (λ e. IsRefusal (reorder_refusal (L.state look.now) a.now f b.now at) e) }
 {
-    meta.recall_soundness();
     // Only the contract needs it.
     let _meta = meta;
     let Some(old) = look.row(a, f, b) else {

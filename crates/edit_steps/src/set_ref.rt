@@ -1,7 +1,7 @@
 //! The assignment of a reference of upper bound 1, which displaces its old target.
 ghost use Rattle.std.specs.Prelude.{◌≡◌, true, ◌++◌, ◌∷◌, [], IfOk, OnOk, IfErr, None, is_some, unwrap_or};
 ghost use Rattle.std.specs.FinMap.{get};
-ghost use Rattle.model_state.specs.Good.{Good, Sound};
+ghost use Rattle.model_state.specs.Good.{Good};
 ghost use Rattle.model_state.specs.Typing.{opposite_of};
 ghost use Rattle.model_state.specs.Listing.{targets};
 ghost use Rattle.edit_steps.specs.Rows.{link_step, unlinks};
@@ -63,7 +63,6 @@ pub fn set_ref_steps<L: Look>(
     ensures taken { OnOk result (set_ref_refusal meta.now (L.state look.now) a.now f b.now ≡ None) }
     ensures refused { IfErr result (λ e. IsRefusal (set_ref_refusal meta.now (L.state look.now) a.now f b.now) e) }
 {
-    meta.recall_soundness();
     if !may_link(meta, look.class(a), f, look.class(b)) {
         return Err(LinkFault::WrongType);
     }

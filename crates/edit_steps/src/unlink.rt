@@ -1,7 +1,7 @@
 //! The removal of a reference with its opposite.
 ghost use Rattle.std.specs.Prelude.{◌≡◌, ◌∷◌, [], ◌++◌, IfOk, OnOk, IfErr, None};
 ghost use Rattle.model_state.specs.Typing.{opposite_of};
-ghost use Rattle.model_state.specs.Good.{Good, Sound};
+ghost use Rattle.model_state.specs.Good.{Good};
 ghost use Rattle.edit_steps.specs.Rows.{unlink_step, unlinks};
 ghost use Rattle.edit_steps.specs.References.{unlink_made};
 ghost use Rattle.edit_steps.specs.Refusals.{unlink_refusal};
@@ -110,7 +110,6 @@ pub fn unlink_steps<L: Look>(
     ensures taken { OnOk result (unlink_refusal (L.state look.now) a.now f b.now ≡ None) }
     ensures refused { IfErr result (λ e. IsRefusal (unlink_refusal (L.state look.now) a.now f b.now) e) }
 {
-    meta.recall_soundness();
     let Some(ra) = look.row(a, f, b) else {
         return Err(LinkFault::NoEntry);
     };

@@ -67,7 +67,8 @@ fn open_file<R: Files<File = File>>(rt: &R) -> io::Result<File> {
     how.open(rt, JOURNAL)?.try_clone()
 }
 
-/// The file under its lock. Nothing is opened where it is no regular file, or is open as a standard stream too.
+/// The file under its lock. Only then is it looked at: this fails, and lets the file and the lock go, where it is no regular
+/// file, or is open as a standard stream too.
 fn open_store<R: Files<File = File> + AllocGlobal>(rt: &R) -> io::Result<Store> {
     let file = open_file(rt)?;
     lock(&file)?;

@@ -10,7 +10,7 @@ use std::alloc::{AllocError, Global};
 use std::vec::IntoIter;
 
 /// A host for tests of a dialogue. It hands its input over piece by piece, the next one only once something was printed
-/// since the last `take`. It reports nothing.
+/// since the last `take`. It reports nothing but its failures.
 #[derive(Drop)]
 pub struct TalkHost {
     alloc: Global,

@@ -6,7 +6,7 @@ use Rattle.finite_maps.specs.Maps.{is_within, count}
 use Rattle.finite_maps.specs.Equal.{text_eq}
 use Rattle.ecore_meta.specs.Meta.{Meta}
 use Rattle.ecore_meta.specs.declared.meta.Kind.{Kind}
-use Rattle.ecore_meta.specs.declared.meta.Kind.TheVariants.{Attr, AttrMany}
+use Rattle.ecore_meta.specs.declared.meta.Kind.TheVariants.{Attr, AttrMany, Bounded, Free, Contains, Container, Skip}
 use Rattle.ecore_meta.specs.declared.meta.Value.{Value}
 use Rattle.model_state.specs.declared.step.Place.{Place}
 use Rattle.model_state.specs.declared.step.Place.TheVariants.{Root, Inside}
@@ -26,10 +26,16 @@ is_distinct (v ∷ vs) = not (list_any (value_eq v) vs) && is_distinct vs
 -- a list of values that an attribute of the kind may hold
 abbrev pub ValuesOk : Meta → Kind → Option ℕ → List Value → Type 0
 ValuesOk meta (Attr scalar default) upper (v ∷ []) = (fits meta scalar v ≡ true) × (is_default (Attr scalar default) v ≡ false)
+ValuesOk meta (Attr scalar default) upper vs = ⊥
 ValuesOk meta (AttrMany scalar unique) upper (v ∷ vs) =
     (list_all (fits meta scalar) (v ∷ vs) ≡ true) × (is_within (length (v ∷ vs)) upper ≡ true) × (length (v ∷ vs) ≤ most_entries)
     × (cond unique (is_distinct (v ∷ vs)) true ≡ true)
-ValuesOk meta k upper vs = ⊥
+ValuesOk meta (AttrMany scalar unique) upper [] = ⊥
+ValuesOk meta (Bounded target opposite) upper vs = ⊥
+ValuesOk meta (Free target opposite) upper vs = ⊥
+ValuesOk meta (Contains target opposite) upper vs = ⊥
+ValuesOk meta (Container target opposite) upper vs = ⊥
+ValuesOk meta Skip upper vs = ⊥
 
 -- an attribute's entry, by the class of its element
 abbrev pub AttrOk : Meta → Option ℕ → ℕ → Option (List Value) → Type 0

@@ -1,4 +1,4 @@
--- The form of a name: of branches, tags and composites.
+-- The form of a name: of branches, tags, composites, authors and users.
 use Rattle.std.specs.Prelude.{ℕ, Bool, false, ◌&&◌, ◌||◌, ◌==◌, nat_le, List, [], ◌∷◌, length}
 use Rattle.std.specs.List.{list_all}
 use Rattle.std.specs.Char.{is_ascii_alphabetic, is_ascii_alphanumeric}

@@ -22,13 +22,12 @@ use Rattle.plain_repository.specs.State.{changed_by_number, is_closed, is_open}
 use Rattle.plain_repository.specs.Metamodels.{meta_of_read, can_evolve, grown, with_grown}
 use Rattle.plain_repository.specs.Checkouts.{dropped}
 use Rattle.history_tree.specs.declared.version.Signature.{Signature}
-use Rattle.plain_repository.specs.Commits.{version_of, with_commit, with_upgrade, with_new_branch, can_commit}
+use Rattle.plain_repository.specs.Commits.{version_of, with_commit, with_new_branch, can_commit}
 use Rattle.plain_repository.specs.Edits.{added, with_more, can_follow}
 use Rattle.plain_repository.specs.Composites.{with_open, with_closed}
 use Rattle.plain_repository.specs.Local.{without_last, can_undo, without_any, can_discard}
 use Rattle.plain_repository.specs.Tidying.{tidied, can_tidy}
 use Rattle.plain_repository.specs.Merging.{updated, can_update, merged_with, can_merge}
-use Rattle.plain_repository.specs.Answers.{fits_record}
 use Rattle.plain_repository.specs.Events.{by_meta, effect, playable, playable_with, suits}
 use Rattle.plain_repository.specs.Laws.{EventsChange}
 use Rattle.finite_maps.proofs.EqualLaws.{nat_equality}

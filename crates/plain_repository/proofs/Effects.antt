@@ -15,9 +15,9 @@ use Rattle.history_tree.specs.Found.{branch_named, has_tag, of_its_version}
 use Rattle.history_tree.specs.States.{state_of}
 use Rattle.history_tree.proofs.Steady.{head_new}
 use Rattle.op_form.specs.declared.event.Event.{Event}
-use Rattle.op_form.specs.declared.event.Event.TheVariants.{Edit, Begin, End, Undo, Discard, Commit, Branch, Tag}
+use Rattle.op_form.specs.declared.event.Event.TheVariants.{Edit, Begin, End, Undo, Discard, Branch, Tag}
 use Rattle.plain_repository.specs.State.{State, Workspace, Composite as Open, untouched, there, workspace_of, open_steps, model_of, changed_at, is_closed}
-use Rattle.plain_repository.specs.Commits.{version_of, committed, with_commit, can_commit, moved_onto, with_new_branch, is_new_branch}
+use Rattle.plain_repository.specs.Commits.{version_of, committed, with_commit, moved_onto, with_new_branch, is_new_branch}
 use Rattle.plain_repository.specs.Metamodels.{meta_of_read}
 use Rattle.plain_repository.specs.Edits.{takes, with_more, can_follow}
 use Rattle.plain_repository.specs.Composites.{with_open, composed, operation_of_open, with_closed}

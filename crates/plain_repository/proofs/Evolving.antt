@@ -1,5 +1,5 @@
 -- A metamodel that is extended: runs stay runs, and lead where they led.
-use Rattle.std.proofs.Common.{◌≡◌, ◌⊎◌, inl, inr, ℕ, List, ◌++◌, Bool, true, false, cond, ◌&&◌, not, refl, sym, ap, subst, ◌∙◌, Option, None, Some}
+use Rattle.std.proofs.Common.{◌≡◌, ℕ, List, ◌++◌, Bool, true, false, cond, ◌&&◌, not, refl, sym, ap, subst, ◌∙◌, Option, None, Some}
 use Rattle.std.proofs.Common.{Result, Ok, Err, is_none, is_some}
 use Rattle.std.specs.Prelude.{IsTrue, unwrap_or}
 use Rattle.std.proofs.lemmas.Option.{same_Some}
@@ -29,7 +29,7 @@ use Rattle.op_form.specs.declared.event.Event.{Event}
 use Rattle.op_form.specs.declared.event.Event.TheVariants.{Init, Checkout, Edit, Begin, End, Undo, Discard, Tidy, Commit, Branch, Tag, Update, Merge}
 use Rattle.op_form.specs.declared.event.Event.TheVariants.{Drop, Evolve, Upgrade, Signed}
 use Rattle.plain_repository.specs.State.{State, Workspace, folded, model_of, recorded_steps}
-use Rattle.plain_repository.specs.Metamodels.{extension_of, can_evolve, grown, with_grown}
+use Rattle.plain_repository.specs.Metamodels.{extension_of, can_evolve, grown}
 use Rattle.plain_repository.specs.Events.{meta_after}
 use Rattle.plain_repository.specs.Orderly.{InOrder, IsRun, Orderly, Runs, RunsTo, steps_to}
 use Rattle.plain_repository.proofs.Encodings.{and_left, and_right, not_so}

@@ -1,7 +1,7 @@
 -- Which versions are signed: those that events behind Upgrade make.
-use Rattle.std.proofs.Common.{◌≡◌, ℕ, ◌&&◌, ◌||◌, nat_lt, List, [], ◌∷◌, ◌++◌, Bool, true, false, not, length, Option, None, Some, is_some, refl, sym}
-use Rattle.std.proofs.Common.{◌∙◌, ap, subst, append_assoc, append-nil, arith}
-use Rattle.std.specs.Prelude.{IsTrue, All, option_map}
+use Rattle.std.proofs.Common.{◌≡◌, ℕ, ◌&&◌, ◌||◌, nat_lt, List, [], ◌∷◌, ◌++◌, Bool, true, false, Option, None, Some, refl, sym}
+use Rattle.std.proofs.Common.{◌∙◌, ap, subst, append_assoc, append-nil}
+use Rattle.std.specs.Prelude.{IsTrue, All}
 use Rattle.std.specs.List.{list_any}
 use Rattle.std.proofs.lemmas.List.Elements.{All-append, All-from_recursion}
 use Rattle.command_runs.specs.Runs.{played}
@@ -17,8 +17,8 @@ use Rattle.history_tree.specs.declared.version.Signature.{Signature}
 use Rattle.plain_repository.specs.Commits.{version_of, with_commit, with_new_branch}
 use Rattle.plain_repository.specs.Events.{effect, play, playable, playable_with, suits, are_playable}
 use Rattle.plain_repository.specs.Orderly.{AllOrderly, IsOrderly}
-use Rattle.plain_repository.specs.Laws.{IsSigned, IsUnsigned, AddsSuch, is_upgrade, UpgradesStay, NewVersionsAreSigned, AreSignedSince}
-use Rattle.plain_repository.specs.Laws.{SignedSinceUpgrade, is_of_signing, is_asked, are_asked, OldStoresGoOn, OldStoresReadOn}
+use Rattle.plain_repository.specs.Laws.{IsSigned, IsUnsigned, AddsSuch, is_upgrade, UpgradesStay, NewVersionsAreSigned}
+use Rattle.plain_repository.specs.Laws.{SignedSinceUpgrade, is_of_signing, is_asked, are_asked, OldStoresReadOn}
 use Rattle.plain_repository.proofs.Encodings.{and_left, and_right, not_so, suiting}
 use Rattle.plain_repository.proofs.Kept.{empty_kept, play_keeps}
 

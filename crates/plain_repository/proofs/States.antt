@@ -1,5 +1,5 @@
 -- No event changes the state of a version.
-use Rattle.std.proofs.Common.{◌≡◌, ℕ, ◌<◌, ◌∙◌, List, length, Option, Some, ap, subst, arith, length-append}
+use Rattle.std.proofs.Common.{◌≡◌, ℕ, ◌<◌, ◌∙◌, List, length, Some, ap, arith, length-append}
 use Rattle.std.specs.Prelude.{IsTrue, unwrap_or}
 use Rattle.ecore_meta.specs.Meta.{Meta}
 use Rattle.model_state.specs.State.{nothing}
@@ -10,7 +10,7 @@ use Rattle.op_form.specs.declared.event.Event.{Event}
 use Rattle.plain_repository.specs.State.{State, untouched}
 use Rattle.plain_repository.specs.Metamodels.{grown}
 use Rattle.plain_repository.specs.Orderly.{Orderly}
-use Rattle.plain_repository.specs.Events.{effect, meta_after, play, playable, playable_with}
+use Rattle.plain_repository.specs.Events.{effect, meta_after, play, playable_with}
 use Rattle.plain_repository.specs.Laws.{StatesStay}
 use Rattle.plain_repository.proofs.Apart.{effect_leaves, asked, meta_now}
 use Rattle.plain_repository.proofs.Evolving.{grown_is, version_stays, by_growth}

@@ -239,7 +239,32 @@ abbrev pub GivesNumbers : State → Option (List ℕ) → Command → Type 0
 GivesNumbers s block (commands.Import ws) = (meta : Meta) (w : Workspace) (rows : List DocRow) → s.meta ≡ Some meta → workspace_of s ws ≡ Some w
     → doc_of meta (block_text block) ≡ Ok rows
     → let m = model_of meta s.history w in AreNames m rows ws 1 rows (names_of m ws rows)
-GivesNumbers s block command = Unit {0}
+GivesNumbers s block commands.Init = Unit {0}
+GivesNumbers s block commands.Evolve = Unit {0}
+GivesNumbers s block (commands.Load ws) = Unit {0}
+GivesNumbers s block (commands.Checkout spec) = Unit {0}
+GivesNumbers s block (commands.Edit ws edit) = Unit {0}
+GivesNumbers s block (commands.Begin ws name) = Unit {0}
+GivesNumbers s block (commands.End ws) = Unit {0}
+GivesNumbers s block (commands.Undo ws) = Unit {0}
+GivesNumbers s block (commands.Discard ws) = Unit {0}
+GivesNumbers s block (commands.Tidy ws) = Unit {0}
+GivesNumbers s block (commands.Apply ws bytes) = Unit {0}
+GivesNumbers s block (commands.Changes ws) = Unit {0}
+GivesNumbers s block (commands.Show ws) = Unit {0}
+GivesNumbers s block (commands.Cat spec) = Unit {0}
+GivesNumbers s block (commands.Validate ws) = Unit {0}
+GivesNumbers s block (commands.Commit ws message) = Unit {0}
+GivesNumbers s block (commands.Signed ws author moment message) = Unit {0}
+GivesNumbers s block (commands.Branch ws name) = Unit {0}
+GivesNumbers s block (commands.Tag name spec) = Unit {0}
+GivesNumbers s block commands.Log = Unit {0}
+GivesNumbers s block (commands.Package spec) = Unit {0}
+GivesNumbers s block (commands.Update ws choices) = Unit {0}
+GivesNumbers s block (commands.Merge ws branch choices) = Unit {0}
+GivesNumbers s block (commands.Revert ws version) = Unit {0}
+GivesNumbers s block (commands.Drop ws) = Unit {0}
+GivesNumbers s block commands.Upgrade = Unit {0}
 
 -- a command that a line can spell is answered with an event
 pub record MakesEvent (s : State) (block : Option (List ℕ)) (command : Command) (event : Event) : Type 0 where
@@ -263,7 +288,32 @@ LastLinesLook = (last : Last) → looks_last (last_line last) ≡ true
 -- the command is `validate`, whose data lines begin with ids
 abbrev pub is_validate : Command → Bool
 is_validate (commands.Validate ws) = true
-is_validate command = false
+is_validate commands.Init = false
+is_validate commands.Evolve = false
+is_validate (commands.Import ws) = false
+is_validate (commands.Load ws) = false
+is_validate (commands.Checkout spec) = false
+is_validate (commands.Edit ws edit) = false
+is_validate (commands.Begin ws name) = false
+is_validate (commands.End ws) = false
+is_validate (commands.Undo ws) = false
+is_validate (commands.Discard ws) = false
+is_validate (commands.Tidy ws) = false
+is_validate (commands.Apply ws bytes) = false
+is_validate (commands.Changes ws) = false
+is_validate (commands.Show ws) = false
+is_validate (commands.Cat spec) = false
+is_validate (commands.Commit ws message) = false
+is_validate (commands.Signed ws author moment message) = false
+is_validate (commands.Branch ws name) = false
+is_validate (commands.Tag name spec) = false
+is_validate commands.Log = false
+is_validate (commands.Package spec) = false
+is_validate (commands.Update ws choices) = false
+is_validate (commands.Merge ws branch choices) = false
+is_validate (commands.Revert ws version) = false
+is_validate (commands.Drop ws) = false
+is_validate commands.Upgrade = false
 
 -- no data line looks so but those of `validate`
 abbrev pub DataLinesAreApart : Type 0

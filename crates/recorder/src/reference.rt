@@ -68,7 +68,6 @@ fn refer<L: Look>(
     requires one { holds_one meta.now named.now.feature ≡ true }
     ensures { Answers result (recording_of meta.now (L.state look.now) (refer_effect meta.now (L.state look.now) named.now.id named.now.feature (Some word.now))) }
 {
-    meta.recall_soundness();
     let target = live(alloc, look, word)?;
     let steps = set_ref_steps(alloc, look, meta, &named.id, named.feature, &target)?;
     Ok(recorded(steps))
@@ -127,7 +126,6 @@ pub fn link<L: Look>(
     if !is_listed(meta, named.feature) {
         return Err(EditFault::WrongKind);
     }
-    meta.recall_soundness();
     let target = live(alloc, look, target)?;
     let steps = link_steps(alloc, look, meta, &named.id, named.feature, &target, index)?;
     Ok(recorded(steps))
@@ -149,7 +147,6 @@ pub fn unlink<L: Look>(
     if !is_listed(meta, named.feature) {
         return Err(EditFault::WrongKind);
     }
-    meta.recall_soundness();
     let target = entry(alloc, target)?;
     let steps = unlink_steps(alloc, look, meta, &named.id, named.feature, &target)?;
     Ok(recorded(steps))
@@ -173,7 +170,6 @@ pub fn reorder<L: Look>(
     if !is_listed(meta, named.feature) {
         return Err(EditFault::WrongKind);
     }
-    meta.recall_soundness();
     let target = entry(alloc, target)?;
     let steps = reorder_steps(alloc, look, meta, &named.id, named.feature, &target, index)?;
     Ok(recorded(steps))

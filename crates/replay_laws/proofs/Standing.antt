@@ -1,15 +1,12 @@
 -- An item by which an event is made again: it may stand in a script, and is answered with that event.
-use Rattle.std.proofs.Common.{◌≡◌, ℕ, ◌||◌, List, [], ◌∷◌, Bool, true, false, Option, None, Some, Ok, refl, arith, codes}
-use Rattle.std.specs.Fmt.{decimal}
+use Rattle.std.proofs.Common.{◌≡◌, ℕ, List, Bool, true, false, Option, None, Some, Ok}
 use Rattle.std.proofs.lemmas.List.Folds.{list_any_none}
 use Rattle.host_port.specs.Cut.{is_lf}
 use Rattle.op_form.specs.declared.event.Event.{Event}
 use Rattle.script_lang.specs.declared.command.Command.{Command}
 use Rattle.script_lang.specs.Command.{command_of}
-use Rattle.script_lang.specs.Spelling.{IsCommand, IsLineOf, IsWorkspace, spaced}
-use Rattle.script_lang.proofs.LineLemmas.{line_read, line_joined}
-use Rattle.script_lang.proofs.Readings.{reads, word_kind, joined}
-use Rattle.script_lang.proofs.FieldLemmas.{number_kind}
+use Rattle.script_lang.specs.Spelling.{IsCommand, IsLineOf}
+use Rattle.script_lang.proofs.LineLemmas.{line_read}
 use Rattle.plain_repository.specs.State.{State}
 use Rattle.plain_repository.specs.Lines.{is_skipped, takes_block}
 use Rattle.plain_repository.specs.Repository.{decide, decide_line, decide_command, decide_with}

@@ -14,7 +14,8 @@ pub(crate) const MOST_ELEMENTS: usize = 1_000_000;
 
 /// The size of the model of the workspace at a place: how many elements it had when they were counted, and how many were
 /// added to it since. Elements are added where an event creates them or brings them back. Those that go aren't taken off.
-/// So the two are together at least the elements that the model has.
+/// So the two are together at least the elements that the model has, but where there was no memory to count them: as many as
+/// all models may have together are then taken to be added, and they are counted at the next use.
 #[derive(Clone, Copy)]
 struct Size {
     at: usize,
@@ -84,7 +85,7 @@ pub(crate) fn deleted(operations: &[Operation]) -> usize {
 }
 
 impl Size {
-    /// At least how many elements the model has, as far as the number goes: those that went since it was counted are in it.
+    /// How many elements the model is taken to have, as far as the number goes: those that went since it was counted are in it.
     fn elements(&self) -> usize
         ensures { result < usize.MAX → result ≡ self.now.counted + self.now.added }
     {

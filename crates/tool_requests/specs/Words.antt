@@ -27,7 +27,32 @@ command_in text = if nat_lt (length text) (2 ^ 32 - 1) then if_read (command_of 
 -- the version that `cat` is asked for
 abbrev pub shown_by : Command → Option Spec
 shown_by (commands.Cat spec) = Some spec
-shown_by command = None
+shown_by commands.Init = None
+shown_by commands.Evolve = None
+shown_by (commands.Import ws) = None
+shown_by (commands.Load ws) = None
+shown_by (commands.Checkout spec) = None
+shown_by (commands.Edit ws edit) = None
+shown_by (commands.Begin ws name) = None
+shown_by (commands.End ws) = None
+shown_by (commands.Undo ws) = None
+shown_by (commands.Discard ws) = None
+shown_by (commands.Tidy ws) = None
+shown_by (commands.Apply ws bytes) = None
+shown_by (commands.Changes ws) = None
+shown_by (commands.Show ws) = None
+shown_by (commands.Validate ws) = None
+shown_by (commands.Commit ws message) = None
+shown_by (commands.Signed ws author moment message) = None
+shown_by (commands.Branch ws name) = None
+shown_by (commands.Tag name spec) = None
+shown_by commands.Log = None
+shown_by (commands.Package spec) = None
+shown_by (commands.Update ws choices) = None
+shown_by (commands.Merge ws branch choices) = None
+shown_by (commands.Revert ws version) = None
+shown_by (commands.Drop ws) = None
+shown_by commands.Upgrade = None
 
 -- a word names a version where `cat` and the word are a line that spells a command
 abbrev pub spec_in : List ℕ → Option Spec

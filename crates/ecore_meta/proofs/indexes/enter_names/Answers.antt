@@ -1,4 +1,4 @@
-use Rattle.std.proofs.Common.{◌≡◌, ◌∙◌, ap, cond, true, map, subst, sym, take}
+use Rattle.std.proofs.Common.{◌≡◌, ◌∙◌, ap, cond, true, map, subst, sym}
 use Rattle.std.specs.Prelude.{None, Some, is_some}
 use Rattle.std.specs.Str.{bytes_eq}
 use Rattle.ecore_meta.specs.Names.{number_of}
