@@ -143,10 +143,10 @@ fn held_count<L: Look>(
 {
     match kind {
         Kind::Attr { default, .. } => {
-            let is_held = default.is_some() || look.attr(e, f).len() > 0;
+            let is_held = default.is_some() || look.attr_len(e, f) > 0;
             Ok(is_held as u64)
         }
-        Kind::AttrMany { .. } => Ok(look.attr(e, f).len() as u64),
+        Kind::AttrMany { .. } => Ok(look.attr_len(e, f) as u64),
         Kind::Bounded { .. } => Ok(look.targets(alloc, e, f)?.len() as u64),
         Kind::Free { .. } => Ok(look.targets(alloc, e, f)?.len() as u64),
         Kind::Contains { .. } => children_in(alloc, look, e, f),

@@ -22,7 +22,7 @@ fn unset<L: Look>(
 ) -> Result<(), AllocError>
     ensures { OnOk result (steps.new ≡ steps.old ++ put_made (L.state look.now) e.now f None) }
 {
-    match look.attr(e, f).first() {
+    match look.attr_at(e, f, 0) {
         None => Ok(()),
         Some(v) => steps.push(Step::Put {
             e: e.copy(alloc)?,
@@ -69,7 +69,8 @@ fn empty<L: Look>(
     if is_attr(meta, slot.1) {
         unset(alloc, look, &slot.0, slot.1, steps)
     } else {
-        dels(alloc, &slot.0, slot.1, look.attr(&slot.0, slot.1), steps)
+        let values = look.attr(alloc, &slot.0, slot.1)?;
+        dels(alloc, &slot.0, slot.1, values.as_slice(), steps)
     }
 }
 

@@ -1,6 +1,6 @@
 //! The texts that nest no element: names of classes, values of attributes, and references.
 ghost use Rattle.std.specs.Prelude.{◌≡◌, ◌++◌, ◌∷◌, IfOk, OnOk, map, true, false};
-ghost use Rattle.std.specs.Option.{option_copied};
+ghost use Rattle.std.specs.Option.{option_copied, option_map, option_map_or};
 ghost use Rattle.std.specs.String.{string_bytes};
 ghost use Rattle.std.specs.List.{list_all};
 ghost use Rattle.serde_json.specs.Data.{string};
@@ -8,7 +8,7 @@ ghost use Rattle.serde_json.specs.Written.{compact_text};
 ghost use Rattle.ecore_meta.specs.Typing.{fits};
 ghost use Rattle.emfjson_io.specs.Values.{data_of};
 ghost use Rattle.emfjson_text.specs.Frames.{only, references_text, text_if};
-ghost use Rattle.model_texts.specs.Tree.{class_text, entry_ids, first_value, listed, reference};
+ghost use Rattle.model_texts.specs.Tree.{class_text, entry_ids, listed, reference};
 
 use ecore_meta::{Metamodel, Scalar, Value};
 use emfjson_io::write_value;
@@ -39,16 +39,16 @@ pub(crate) fn class_text(alloc: Global, meta: &Metamodel, c: u32) -> Result<Stri
 /// The text of the value of a single attribute, None where it isn't set.
 pub(crate) fn one_value(
     alloc: Global,
-    values: &[Value],
+    value: Option<&Value>,
     scalar: &Scalar,
     meta: &Metamodel,
 ) -> Result<Option<Text>, AllocError>
-    requires fit { list_all (fits meta.now scalar.now) values.now ≡ true }
-    ensures { IfOk result (λ t. t ≡ text_if (first_value meta.now scalar.now values.now)) }
+    requires fit { option_map_or (fits meta.now scalar.now) (option_copied value) true ≡ true }
+    ensures { IfOk result (λ t. t ≡ text_if (option_map (data_of meta.now scalar.now) (option_copied value.entry))) }
 {
-    match values {
-        [] => Ok(None),
-        [value, ..] => Ok(Some(write_value(alloc, value, scalar, meta)?)),
+    match value {
+        None => Ok(None),
+        Some(value) => Ok(Some(write_value(alloc, value, scalar, meta)?)),
     }
 }
 

@@ -113,13 +113,14 @@ fn content_at<L: Look>(
     };
     let single = is_one(feature.upper);
     match &feature.kind {
-        Kind::Attr { scalar, .. } => Ok(leaf_if(one_value(alloc, look.attr(id, f), scalar, meta)?)),
-        Kind::AttrMany { scalar, .. } => Ok(leaf_if(many_values(
-            alloc,
-            look.attr(id, f),
-            scalar,
-            meta,
-        )?)),
+        Kind::Attr { scalar, .. } => {
+            let value = look.attr_at(id, f, 0);
+            Ok(leaf_if(one_value(alloc, value, scalar, meta)?))
+        }
+        Kind::AttrMany { scalar, .. } => {
+            let values = look.attr(alloc, id, f)?;
+            Ok(leaf_if(many_values(alloc, values.as_slice(), scalar, meta)?))
+        }
         Kind::Bounded { .. } => targets_at(alloc, look, id, f, single),
         Kind::Free { .. } => targets_at(alloc, look, id, f, single),
         Kind::Contains { .. } => elements_at(alloc, look, id, f, single),

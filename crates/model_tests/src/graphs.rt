@@ -73,6 +73,35 @@ fn put_inside<L: Look>(
     put_place(alloc, text, model, &inside)
 }
 
+// What a model shows of an attribute at an index, and whether it has the value that stands there.
+fn put_value<L: Look>(text: &mut String, model: &L, e: &Id, f: u32, at: usize) -> Result<(), Fail> {
+    match model.attr_at(e, f, at) {
+        None => text.push_str(" none")?,
+        Some(value) => {
+            let is_there = model.attr_has(e, f, value);
+            write!(text, " {value:?} {is_there}")?;
+        }
+    }
+    Ok(())
+}
+
+// All that a model shows of an attribute, and of the index after its last.
+fn put_values<L: Look>(
+    alloc: Global,
+    text: &mut String,
+    model: &L,
+    e: &Id,
+    f: u32,
+) -> Result<(), Fail> {
+    let values = model.attr(alloc, e, f)?;
+    let count = model.attr_len(e, f);
+    write!(text, "{:?} {count}", values.as_slice())?;
+    for at in 0..count {
+        put_value(text, model, e, f, at)?;
+    }
+    put_value(text, model, e, f, count)
+}
+
 // All that a model shows of a feature of an element.
 fn put_feature<L: Look>(
     alloc: Global,
@@ -81,7 +110,9 @@ fn put_feature<L: Look>(
     e: &Id,
     f: u32,
 ) -> Result<(), Fail> {
-    write!(text, "\n{f}: {:?} ", model.attr(e, f))?;
+    write!(text, "\n{f}: ")?;
+    put_values(alloc, text, model, e, f)?;
+    text.push_str(" ")?;
     put_inside(alloc, text, model, e, f)?;
     put_targets(alloc, text, model, e, f)
 }

@@ -78,7 +78,7 @@ fn ask_one<L: Look>(alloc: Global, model: &L, query: Query, e: &Id) -> Result<us
     match query {
         Query::Class => Ok(yes(model.class(e).is_some())),
         Query::Placed => Ok(yes(model.placed(e).is_some())),
-        Query::Attr => Ok(model.attr(e, LABEL).len()),
+        Query::Attr => Ok(yes(model.attr_at(e, LABEL, 0).is_some())),
         Query::Row => Ok(yes(model.row(e, CITES, e).is_some())),
         Query::LastTarget => Ok(yes(model.last_target(e, CITES).is_some())),
         Query::LastChild => Ok(yes(model.last_child(&Place::Root).is_some())),

@@ -1,7 +1,8 @@
 -- A list stays the same where a value is put after others that are the same as it, or before them.
-use Rattle.std.proofs.Common.{◌≡◌, ℕ, ◌+◌, ◌-◌, ◌≤◌, zero, suc, true, false, List, [], ◌∷◌, take, drop, refl, sym, ap, ◌∙◌, ◌&&◌, arith}
+use Rattle.std.proofs.Common.{◌≡◌, ℕ, Bool, ◌+◌, ◌-◌, ◌≤◌, ◌<◌, zero, suc, true, false, List, [], ◌∷◌, length, take, drop, refl, sym, ap, ◌∙◌, ◌&&◌, arith}
 use Rattle.std.specs.Prelude.{Option, None, Some, slice_get}
 use Rattle.std.specs.List.{insert, remove, list_all}
+use Rattle.std.specs.Option.{option_map_or}
 use Rattle.finite_maps.specs.Equal.{list_eq}
 use Rattle.finite_maps.proofs.EqualLaws.{apart, list_equality}
 use Rattle.ecore_meta.specs.declared.meta.Value.{Value}
@@ -80,3 +81,45 @@ pub stays_back : (vs : List Value) (from to : ℕ) (w : Value) → slice_get vs 
 stays_back vs from to w is le =
     ap (λ l. list_eq value_eq l vs) (shifted_is vs from to w is)
     ∙ moved_back vs from to (from - to) w is (omega arith)
+
+-- where no value stands at the one place
+pub stays_without : (vs : List Value) (from to : ℕ) → slice_get vs from ≡ None → list_eq value_eq (shifted vs from to) vs ≡ true
+stays_without vs from to is =
+    ap (λ (o : Option Value). list_eq value_eq (elim o [ None ↦ vs | Some v ↦ insert (remove vs from) to v ]) vs) is ∙ own vs
+
+-- the value at an index, and n more after it
+next : (p : Value → Bool) (vs : List Value) (at n : ℕ) → at < length vs
+    → list_all p (take (suc n) (drop at vs)) ≡ option_map_or p (slice_get vs at) false && list_all p (take n (drop (suc at) vs))
+next p [] at n lt = absurd (omega arith)
+next p (v ∷ vs) zero n lt = refl
+next p (v ∷ vs) (suc i) n lt = next p vs i n (omega arith)
+
+-- the first of the values between two indexes, and those after it
+all_next : (p : Value → Bool) (vs : List Value) (at end : ℕ) → at < end → end ≤ length vs
+    → list_all p (take (end - at) (drop at vs)) ≡ option_map_or p (slice_get vs at) false && list_all p (take (end - (at + 1)) (drop (at + 1) vs))
+all_next p vs at end lt le =
+    let n = end - (at + 1) in
+    let whole : end - at ≡ suc n = omega arith in
+    let after : suc at ≡ at + 1 = omega arith in
+    ap (λ k. list_all p (take k (drop at vs))) whole
+    ∙ next p vs at n (omega arith)
+    ∙ ap (λ k. option_map_or p (slice_get vs at) false && list_all p (take n (drop k vs))) after
+
+-- it is the same, or it is not
+pub all_on : (p : Value → Bool) (vs : List Value) (at end : ℕ) → at < end → end ≤ length vs → option_map_or p (slice_get vs at) false ≡ true
+    → list_all p (take (end - at) (drop at vs)) ≡ list_all p (take (end - (at + 1)) (drop (at + 1) vs))
+all_on p vs at end lt le is =
+    let rest = list_all p (take (end - (at + 1)) (drop (at + 1) vs)) in
+    all_next p vs at end lt le ∙ ap (λ b. b && rest) is
+
+pub all_stop : (p : Value → Bool) (vs : List Value) (at end : ℕ) → at < end → end ≤ length vs → option_map_or p (slice_get vs at) false ≡ false
+    → list_all p (take (end - at) (drop at vs)) ≡ false
+all_stop p vs at end lt le is =
+    let rest = list_all p (take (end - (at + 1)) (drop (at + 1) vs)) in
+    all_next p vs at end lt le ∙ ap (λ b. b && rest) is
+
+-- none stand between
+pub all_past : (p : Value → Bool) (vs : List Value) (at end : ℕ) → end ≤ at → list_all p (take (end - at) (drop at vs)) ≡ true
+all_past p vs at end le =
+    let none : end - at ≡ 0 = omega arith in
+    ap (λ n. list_all p (take n (drop at vs))) none

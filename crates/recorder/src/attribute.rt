@@ -30,7 +30,7 @@ fn single_value<L: Look>(
 ) -> Result<Option<Value>, AllocError>
     ensures { IfOk result (λ v. v ≡ single_value (get (L.state look.now).attr (e.now, f))) }
 {
-    match look.attr(e, f).first() {
+    match look.attr_at(e, f, 0) {
         None => Ok(None),
         Some(v) => Ok(Some(v.copy(alloc)?)),
     }

@@ -1,6 +1,7 @@
 //! The recording of `add`, `remove`, `shift` and `unset` of many-valued attributes.
-ghost use Rattle.std.specs.Prelude.{◌≡◌, ◌<◌, ◌∷◌, IfOk, [], None, Some, length, true, unwrap_or};
+ghost use Rattle.std.specs.Prelude.{◌≡◌, ◌<◌, ◌≤◌, ◌-◌, ◌∷◌, IfOk, [], None, Some, drop, false, length, slice_get, take, true, unwrap_or};
 ghost use Rattle.std.specs.List.{list_all};
+ghost use Rattle.std.specs.Option.{option_map_or};
 ghost use Rattle.finite_maps.specs.Equal.{list_eq};
 ghost use Rattle.finite_maps.specs.Maps.{is_below};
 ghost use Rattle.ecore_meta.specs.Typing.{upper_of};
@@ -20,8 +21,7 @@ use ecore_meta::{Kind, Metamodel, Value};
 use edit_steps::{EditFault, dels};
 use edits::Recorded;
 use model_state::{
-    Id, Look, MOST_ENTRIES, OpKind, Step, contains, is_below_bound, is_many, is_same_value,
-    upper_of,
+    Id, Look, MOST_ENTRIES, OpKind, Step, is_below_bound, is_many, is_same_value, upper_of,
 };
 use std::alloc::{AllocError, Global};
 use texts::{List, Text};
@@ -41,7 +41,7 @@ fn count<L: Look>(look: &L, meta: &Metamodel, e: &Id, f: u32) -> u32
 {
     // Only the contract needs it.
     let _meta = meta;
-    look.attr(e, f).len() as u32
+    look.attr_len(e, f) as u32
 }
 
 /// What is recorded of one step of a many-valued attribute.
@@ -77,9 +77,15 @@ pub fn clear<L: Look>(
 {
     // Only the contract needs it.
     let _meta = meta;
-    let values = look.attr(&named.id, named.feature);
+    let values = look.attr(alloc, &named.id, named.feature)?;
     let mut steps = List::new(alloc);
-    dels(alloc, &named.id, named.feature, values, &mut steps)?;
+    dels(
+        alloc,
+        &named.id,
+        named.feature,
+        values.as_slice(),
+        &mut steps,
+    )?;
     Ok(Recorded {
         operation: operation(OpKind::ManyAttribute, steps),
         id: None,
@@ -96,11 +102,11 @@ fn takes<L: Look>(
 ) -> Result<(), EditFault>
     ensures { result ≡ accepts unique (upper_of meta.now named.now.feature) (values_at (L.state look.now) named.now.id named.now.feature) value.now tt }
 {
-    let values = look.attr(&named.id, named.feature);
-    if unique && contains(values, value) {
+    if unique && look.attr_has(&named.id, named.feature, value) {
         return Err(EditFault::AlreadyThere);
     }
-    if !has_room(meta, named.feature, values.len()) || values.len() >= MOST_ENTRIES {
+    let count = look.attr_len(&named.id, named.feature);
+    if !has_room(meta, named.feature, count) || count >= MOST_ENTRIES {
         return Err(EditFault::Bound);
     }
     Ok(())
@@ -176,31 +182,49 @@ pub fn remove<L: Look>(
     if !is_many(meta, named.feature) {
         return Err(EditFault::WrongKind);
     }
-    let Some(v) = look.attr(&named.id, named.feature).get(index as usize) else {
+    let Some(v) = look.attr_at(&named.id, named.feature, index as usize) else {
         return Err(EditFault::NoEntry);
     };
     let step = del(alloc, &named.id, named.feature, index, v)?;
     Ok(one(alloc, step)?)
 }
 
-fn are_all(values: &[Value], v: &Value) -> bool
-    ensures { result ≡ list_all (value_eq v.now) values.now }
+/// Whether the value at an index of an attribute is the same as another.
+fn is_at<L: Look>(look: &L, named: &Named, at: usize, v: &Value) -> bool
+    ensures { result ≡ option_map_or (value_eq v.now) (slice_get (values_at (L.state look.now) named.now.id named.now.feature) at) false }
 {
-    values.iter().all(|x| is_same_value(v, x))
+    match look.attr_at(&named.id, named.feature, at) {
+        None => false,
+        Some(x) => is_same_value(v, x),
+    }
 }
 
-/// Whether the list stays the same when the value at one place is taken out and put at another. It does where all that
-/// it passes are the same as it.
-fn stays(values: &[Value], from: usize, to: usize) -> bool
-    requires from { from < length values.now }
-    requires to { to < length values.now }
-    ensures { result ≡ list_eq value_eq (shifted values.now from to) values.now }
+/// Whether the values of an attribute from an index on, up to the one before an end, are all the same as another.
+fn are_all<L: Look>(look: &L, named: &Named, from: usize, end: usize, v: &Value) -> bool
+    requires { end ≤ length (values_at (L.state look.now) named.now.id named.now.feature) }
+    ensures { result ≡ list_all (value_eq v.now) (take (end - from) (drop from (values_at (L.state look.now) named.now.id named.now.feature))) }
 {
-    let v = &values[from];
+    for at in from..end {
+        if !is_at(look, named, at, v) {
+            return false;
+        }
+    }
+    true
+}
+
+/// Whether an attribute's list stays the same when the value at one place is taken out and put at another. It does where
+/// all that it passes are the same as it, and where no value stands at the one place.
+fn stays<L: Look>(look: &L, named: &Named, from: u32, to: u32) -> bool
+    requires { to < length (values_at (L.state look.now) named.now.id named.now.feature) }
+    ensures { result ≡ list_eq value_eq (shifted (values_at (L.state look.now) named.now.id named.now.feature) from to) (values_at (L.state look.now) named.now.id named.now.feature) }
+{
+    let Some(v) = look.attr_at(&named.id, named.feature, from as usize) else {
+        return true;
+    };
     if from <= to {
-        are_all(&values[from + 1..to + 1], v)
+        are_all(look, named, from as usize + 1, to as usize + 1, v)
     } else {
-        are_all(&values[to..from], v)
+        are_all(look, named, to as usize, from as usize, v)
     }
 }
 
@@ -221,11 +245,11 @@ pub fn shift<L: Look>(
     if !is_many(meta, named.feature) {
         return Err(EditFault::WrongKind);
     }
-    let values = look.attr(&named.id, named.feature);
-    if from as usize >= values.len() || to as usize >= values.len() {
+    let count = look.attr_len(&named.id, named.feature);
+    if from as usize >= count || to as usize >= count {
         return Err(EditFault::NoEntry);
     }
-    if stays(values, from as usize, to as usize) {
+    if stays(look, named, from, to) {
         return Ok(Recorded {
             operation: None,
             id: None,

@@ -36,7 +36,7 @@ fn put_first<L: Look>(
 ) -> Result<(), AllocError>
     ensures { OnOk result (steps.new ≡ steps.old ++ put_first slot.now (single_value (get (L.state look.now).attr slot.now))) }
 {
-    match look.attr(&slot.0, slot.1).first() {
+    match look.attr_at(&slot.0, slot.1, 0) {
         None => Ok(()),
         Some(v) => steps.push(put(alloc, &slot.0, slot.1, v)?),
     }
@@ -82,7 +82,8 @@ fn fill<L: Look>(
     if is_attr(meta, slot.1) {
         put_first(alloc, look, slot, steps)
     } else {
-        inserts(alloc, &slot.0, slot.1, look.attr(&slot.0, slot.1), steps)
+        let values = look.attr(alloc, &slot.0, slot.1)?;
+        inserts(alloc, &slot.0, slot.1, values.as_slice(), steps)
     }
 }
 

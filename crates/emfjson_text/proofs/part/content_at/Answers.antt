@@ -12,5 +12,5 @@ returns-in_ok-many_values-in-AttrMany g c = λ below.
     let m = g.L.Look.state c.args.look.now in
     c.leaf_if-in-AttrMany.ensures below
     ∙ c.in_ok-many_values-in-AttrMany.ensures
-    ∙ ap (λ vs. text_if (listed false (map (data_of meta c.in-AttrMany.scalar) vs))) c.attr-in-AttrMany.ensures
+    ∙ ap (λ vs. text_if (listed false (map (data_of meta c.in-AttrMany.scalar) vs))) (c.as_slice.ensures ∙ c.in_ok-values-in-AttrMany.ensures)
     ∙ ap (λ k. text_if (content meta m below c.args.id.now c.args.f k)) (sym c.in-AttrMany.is ∙ ap (λ o. option_map_or (λ x. x.kind) o Skip) c.in-Some.ensures)
