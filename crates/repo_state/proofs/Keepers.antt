@@ -1,15 +1,18 @@
 -- Which workspaces keep their models, once one is set or added, or a place is taken out of those used last.
-use Rattle.std.proofs.Common.{◌≡◌, ◌≢◌, ◌⊎◌, inl, inr, ⊎_elim, ℕ, zero, suc, Bool, true, false, is_some, List, [], ◌∷◌, ◌++◌, Option, Some, None}
+use Rattle.std.proofs.Common.{◌≡◌, ◌≢◌, ◌⊎◌, inl, inr, ⊎_elim, ℕ, zero, suc, ◌≤◌, Bool, true, false, is_some, List, [], ◌∷◌, ◌++◌, length, map}
+use Rattle.std.proofs.Common.{Option, Some, None}
 use Rattle.std.proofs.Common.{IfSome, sym, ◌∙◌, ap, subst, refl, arith}
 use Rattle.std.specs.Prelude.{All, if◌then◌else◌}
 use Rattle.std.specs.List.{Contains}
 use Rattle.std.proofs.Math.ListN.{set, get_or}
+use Rattle.std.proofs.lemmas.List.{get_or_past, length-map}
 use Rattle.std.proofs.lemmas.Option.{same_Some}
 use Rattle.ecore_meta.specs.Meta.{Meta}
 use Rattle.history_tree.specs.History.{History}
 use Rattle.repo_state.specs.declared.repo.Begun.{Begun}
 use Rattle.repo_state.specs.declared.workspace.Workspace.{Workspace as Kept}
-use Rattle.repo_state.specs.Keeping.{AllFit, FitsAny, KeepersAmong, ModelFits, keeps_model}
+use Rattle.plain_repository.specs.State.{Workspace}
+use Rattle.repo_state.specs.Keeping.{AllFit, FitsAny, KeepersAmong, ModelFits, keeps_model, plain_any}
 use Rattle.repo_state.proofs.Changing.{none_fits}
 use Rattle.model_state.specs.State as models
 
@@ -87,3 +90,20 @@ pub all_fit : (b : Option Begun) (before after : List (Option Kept))
     → ((meta : Meta) (h : History) → All (FitsAny meta h) before → All (FitsAny meta h) after) → AllFit b before → AllFit b after
 all_fit None before after fits all = tt
 all_fit (Some begun) before after fits all = fits begun.meta begun.history.history all
+
+-- ---- all of them go
+-- where only places past the last one keep a model, none is kept
+pub none_left : (old new : List (Option Kept)) (n : ℕ) → map plain_any new ≡ map plain_any old → length old ≤ n
+    → ((i : ℕ) → keeps_model (get_or new i None) ≡ true → n ≤ i) → (i : ℕ) → keeps_model (get_or new i None) ≡ false
+none_left old new n same past left i = by (keeps_model (get_or new i None)) refl
+  where
+    as_many : length new ≡ length old
+    as_many = sym (length-map new plain_any) ∙ ap (λ (l : List (Option Workspace)). length l) same ∙ length-map old plain_any
+
+    by : (b : Bool) → keeps_model (get_or new i None) ≡ b → b ≡ false
+    by false is = refl
+    by true is = sym is ∙ ap keeps_model (get_or_past new i None (omega (arith, left i is, as_many, past)))
+
+-- those that keep one, of which there are none, stand at any places
+pub none_among : (places : List ℕ) (ws : List (Option Kept)) → ((at : ℕ) → keeps_model (get_or ws at None) ≡ false) → KeepersAmong places ws
+none_among places ws none at keeps = let is : false ≡ true = sym (none at) ∙ keeps in absurd cc

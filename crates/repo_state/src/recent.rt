@@ -52,6 +52,17 @@ fn let_go(workspaces: &mut Vec<Option<Workspace>>, sizes: &mut Sizes, at: usize,
     }
 }
 
+/// No workspace keeps its model any more. This takes no memory.
+fn forget_all(workspaces: &mut Vec<Option<Workspace>>)
+    ensures same { map plain_any workspaces.new.items ≡ map plain_any workspaces.old.items }
+    ensures fits { (meta : Meta) (h : History) → All (FitsAny meta h) workspaces.old.items → All (FitsAny meta h) workspaces.new.items }
+    ensures none { (at : ℕ) → keeps_model (get_or workspaces.new.items at None) ≡ false }
+{
+    for at in 0..workspaces.len() {
+        forget(workspaces, Some(at));
+    }
+}
+
 /// The model, where the place is among those of the workspaces that used theirs last, and it has a size.
 pub(crate) fn to_keep(recent: &Recent, sizes: &Sizes, at: usize, model: Working) -> Option<Working>
     ensures same { IfSome result (λ m. m ≡ model) }
@@ -98,5 +109,13 @@ impl Repo {
     {
         self.sizes.put_last(at);
         let_go(&mut self.workspaces, &mut self.sizes, at, 0);
+    }
+
+    /// The models of all workspaces are let go, so that their memory is free. None is kept then, and this takes no memory.
+    pub fn let_models_go(&mut self)
+        ensures same { self.new ≡ self.old }
+    {
+        forget_all(&mut self.workspaces);
+        self.sizes.clear();
     }
 }

@@ -1,5 +1,5 @@
 //! How many elements the models have that workspaces keep. Where these are too many together, the models used longest ago are let go.
-ghost use Rattle.std.specs.Prelude.{◌≡◌, ◌≢◌, ◌⊎◌, ◌+◌, ◌∷◌, ◌<◌, ◌≤◌, ℕ, IfNone, IfSome, IsTrue, OnOk, Some, drop, length, not, nat_eq};
+ghost use Rattle.std.specs.Prelude.{◌≡◌, ◌≢◌, ◌⊎◌, ◌+◌, ◌∷◌, ◌<◌, ◌≤◌, ℕ, [], IfNone, IfSome, IsTrue, OnOk, Some, drop, length, not, nat_eq};
 ghost use Rattle.std.specs.List.{Contains, filter};
 ghost use Rattle.std.specs.Vec.{vec_capacity, vec_len};
 ghost use Rattle.repo_state.specs.Sizes.{HasRoom, sized, together};
@@ -104,6 +104,13 @@ impl Sizes {
         Sizes {
             sizes: Vec::new(alloc),
         }
+    }
+
+    /// No model is kept any more. This takes no memory.
+    pub(crate) fn clear(&mut self)
+        ensures none { self.new.sizes.items ≡ [] }
+    {
+        self.sizes.clear();
     }
 
     /// How many elements the models have together, as far as the number goes.

@@ -141,6 +141,15 @@ module _ (disk : Disk) (state : State) (place next at : ℕ) (bytes : List ℕ) 
 abbrev pub Played : State → List ℕ → State → Type 0
 Played state bytes next = (event : Event) × IsTrue (playable state event) × (bytes ≡ event_encoding event) × (next ≡ play state event)
 
+-- of the same repository and the same bytes by other names
+pub played_on : (s t : State) (read bytes : List ℕ) (next : State) → s ≡ t → read ≡ bytes → Played s read next → Played t bytes next
+played_on s t read bytes next same is event = (
+  event.0,
+  subst (λ (x : State). IsTrue (playable x event.0)) same event.1,
+  sym is ∙ event.2,
+  event.3 ∙ ap (λ (x : State). play x event.0) same,
+)
+
 pub spells : (s : State) (bytes : List ℕ) (next : State) → Played s bytes next → SpellsEvent bytes
 spells s bytes next event = (event.0, playable_is_event s event.0 event.1, event.2)
 

@@ -1,17 +1,21 @@
 //! A store that is being opened: its records are read, and the event of each is played.
-ghost use Rattle.std.specs.Prelude.{◌≡◌, ◌≢◌, ◌<◌, ◌^◌, [], List, length, IsTrue, IfOk, OnOk, IfErr, IfSome, IfNone, IsErrOf, true, false};
+ghost use Rattle.std.specs.Prelude.{◌≡◌, ◌≢◌, ◌+◌, ◌<◌, ◌^◌, ◌++◌, [], ◌∷◌, List, ℕ, length, IsTrue, IfOk, OnOk, IfErr, OnErr, IfSome, IfNone, IsErrOf, true, false};
 ghost use Rattle.host_port.specs.Host.{disk_now, Rose, GoesOn, Throughout, KeepsDisk, KeepsSaid, KeepsInput};
-ghost use Rattle.commit_journal.specs.Journal.{IsAtMostSynced, IsNoHeader, new_size};
+ghost use Rattle.commit_journal.specs.Journal.{IsAtMostSynced, IsAtRest, IsNoHeader, IsShort, IsStuck, IsWalked, StandsForNone, new_size, next_gate};
+ghost use Rattle.commit_journal.specs.Walk.{IfDamaged};
 ghost use Rattle.op_form.specs.declared.event.Event.{Event};
 ghost use Rattle.op_form.specs.Events.{event_encoding};
 ghost use Rattle.op_form.specs.Formed.{IsEvent};
+ghost use Rattle.plain_repository.specs.Events.{play, playable};
 ghost use Rattle.plain_repository.specs.Store.{IsDamaged, StandsForNoEvents};
+ghost use Rattle.version_states.specs.Cached.{MayUse, Uses};
+ghost use Rattle.repo_state.specs.Cached.{HasForms};
 ghost use Rattle.store_session.specs.Opening.{IsMounting, IsOpenedSince, PlaysEvent};
 ghost use Rattle.store_session.specs.Session.{AtDamage, IsReplayed, IsStoreOf};
 
 use crate::answered::{SessionFault, session_fault};
 use crate::session::Session;
-use commit_journal::Walk;
+use commit_journal::{JournalFault, Walk};
 use event_play::replay;
 use host_port::Host;
 use op_form::Event;
@@ -49,6 +53,67 @@ impl Played {
             Err(FormFault::Memory) => Err(AllocError),
             Err(FormFault::NotForm { .. }) => unreachable!(),
         }
+    }
+}
+
+/// The bytes of the next record, or `None` at the closed gate. Where memory runs out, the working models of all workspaces
+/// are let go, and the record is read once more.
+fn next_record<H: Host>(
+    alloc: Global,
+    host: &mut H,
+    walk: &mut Walk,
+    repo: &mut Repo,
+) -> Result<Option<Vec<u8>>, JournalFault>
+    requires walked { IsTrue (H.told host.old).tells → ((forms : List (List ℕ)) × IsWalked (disk_now (H.told host.old)) forms walk.old.next) }
+    ensures some { IfOk result (λ next. IfSome next (λ form. (walk.new ≡ record { place = walk.old.next; next = walk.old.next + 5 + length form.items; ended = walk.old.ended }) × IsShort form.items)) }
+    ensures none { IfOk result (λ next. IfNone next (walk.new ≡ record walk.old { ended = true })) }
+    ensures err { OnErr result (walk.new ≡ walk.old) }
+    ensures low { walk.new.next < 2 ^ 40 }
+    ensures walked { IfOk result (λ next. IfSome next (λ form. IsTrue (H.told host.old).tells → (forms : List (List ℕ)) → IsWalked (disk_now (H.told host.old)) forms walk.old.next
+        → IsWalked (disk_now (H.told host.new)) (forms ++ form.items ∷ []) walk.new.next)) }
+    ensures ended { IfOk result (λ next. IfNone next (IsTrue (H.told host.old).tells → (forms : List (List ℕ)) → IsWalked (disk_now (H.told host.old)) forms walk.old.next
+        → IsAtRest (disk_now (H.told host.new)) forms walk.new.next)) }
+    ensures damaged { IfErr result (λ fault. IfDamaged fault (λ at. (at ≡ walk.old.next) × (IsTrue (H.told host.old).tells → IsStuck (disk_now (H.told host.old)).now at))) }
+    ensures nothing { IfErr result (λ fault. IfDamaged fault (λ _. IsTrue (H.told host.old).tells → StandsForNone (disk_now (H.told host.old)).now)) }
+    ensures cause { IsErrOf result JournalFault.DiskFault → Rose (H.told host.old).disk_faults (H.told host.new).disk_faults }
+    ensures course { GoesOn (H.told host.old) (H.told host.new) }
+    ensures disk { KeepsDisk (H.told host.old) (H.told host.new) }
+    ensures said { KeepsSaid (H.told host.old) (H.told host.new) }
+    ensures input { KeepsInput (H.told host.old) (H.told host.new) }
+    ensures same { repo.new ≡ repo.old }
+{
+    match walk.next_bytes(alloc, host) {
+        Err(JournalFault::Memory) => {
+            repo.let_models_go();
+            walk.next_bytes(alloc, host)
+        }
+        other => other,
+    }
+}
+
+/// Plays the event of a record. Where memory runs out, the working models of all workspaces are let go, and it is played
+/// once more.
+fn play_record(
+    alloc: Global,
+    cache: &mut Cache,
+    pool: &mut Pool,
+    repo: &mut Repo,
+    bytes: &[u8],
+) -> Result<(), ReplayFault>
+    requires room { next_gate repo.old.end (length bytes.now) < 2 ^ 40 }
+    requires usable { MayUse pool.old cache.old }
+    requires forms { HasForms repo.old pool.old cache.old }
+    ensures played { OnOk result ((event : Event) × IsTrue (playable repo.old event) × (bytes.now ≡ event_encoding event) × (repo.new ≡ play repo.old event)) }
+    ensures refused { IsErrOf result ReplayFault.NotPlayable → (event : Event) → IsTrue (playable repo.old event) → bytes.now ≢ event_encoding event }
+    ensures uses { Uses pool.old pool.new cache.old cache.new }
+    ensures forms { HasForms repo.new pool.new cache.new }
+{
+    match replay(alloc, cache, pool, repo, bytes) {
+        Err(ReplayFault::Memory) => {
+            repo.let_models_go();
+            replay(alloc, cache, pool, repo, bytes)
+        }
+        other => other,
     }
 }
 
@@ -147,12 +212,12 @@ impl Opening {
         ensures said { KeepsSaid (H.told host.old) (H.told host.new) }
         ensures input { KeepsInput (H.told host.old) (H.told host.new) }
     {
-        let bytes = match self.walk.next_bytes(alloc, host) {
+        let bytes = match next_record(alloc, host, &mut self.walk, &mut self.repo) {
             Err(fault) => return Err(session_fault(fault)),
             Ok(None) => return Ok(None),
             Ok(Some(bytes)) => bytes,
         };
-        match replay(
+        match play_record(
             alloc,
             &mut self.cache,
             &mut self.pool,

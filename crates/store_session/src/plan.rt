@@ -94,9 +94,39 @@ fn play_ready(
 }
 
 /// Decides a command, with all the memory that it takes. Its event is made in memory, and its record is ready in frames
-/// of the pool.
-#[tactic(auto, using(crate::proofs::Holding::all_on, crate::proofs::Holding::none_both))]
+/// of the pool. Where memory runs out, the working models of all workspaces are let go, and all of this is done once more.
 pub(crate) fn prepare(
+    alloc: Global,
+    pool: &mut Pool,
+    cache: &mut Cache,
+    repo: &mut Repo,
+    journal: &Journal,
+    line: &str,
+    block: &Option<Text>,
+) -> Result<Plan, AllocError>
+    requires line { length line.now < 2 ^ 32 - 1 }
+    requires block { IsShortBlock block.now }
+    requires all { HoldsAll pool.old cache.old }
+    requires forms { HasForms repo.old pool.old cache.old }
+    ensures plan { IfOk result (IsPlan pool.new repo.old (decide_line repo.old line.now block.now)) }
+    ensures held { IfOk result (λ plan. HoldsBoth pool.new cache.new plan.ready) }
+    ensures all { OnErr result (HoldsAll pool.new cache.new) }
+    ensures forms { HasForms repo.new pool.new cache.new }
+    ensures state { OnOk result (repo.new ≡ after play repo.old (decide_line repo.old line.now block.now).event) }
+    ensures same { OnErr result (repo.new ≡ repo.old) }
+{
+    match prepare_once(alloc, pool, cache, repo, journal, line, block) {
+        Ok(plan) => Ok(plan),
+        Err(_) => {
+            repo.let_models_go();
+            prepare_once(alloc, pool, cache, repo, journal, line, block)
+        }
+    }
+}
+
+/// The same, and without a second try.
+#[tactic(auto, using(crate::proofs::Holding::all_on, crate::proofs::Holding::none_both))]
+fn prepare_once(
     alloc: Global,
     pool: &mut Pool,
     cache: &mut Cache,

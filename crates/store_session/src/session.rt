@@ -19,7 +19,7 @@ use crate::plan::{answer, answer_quietly};
 use commit_journal::Journal;
 use host_port::Host;
 use page_pool::Pool;
-use repo_core::Counts;
+use repo_core::{Counts, elements_at_head};
 use repo_state::Repo;
 use state_cache::Cache;
 use std::alloc::{AllocError, Global};
@@ -106,12 +106,19 @@ impl Session {
         repo_core::counts_of(&self.repo)
     }
 
-    /// How many elements the state at trunk's head has; none before there is a metamodel.
+    /// How many elements the state at trunk's head has; none before there is a metamodel. Where memory runs out, the working
+    /// models of all workspaces are let go, and they are counted once more.
     pub fn elements(&mut self, alloc: Global) -> Result<u64, AllocError>
         ensures elements { IfOk result (λ n. n ≡ element_count self.old.state) }
         ensures same { self.new ≡ self.old }
     {
-        repo_core::elements_at_head(alloc, &mut self.cache, &mut self.pool, &self.repo)
+        match elements_at_head(alloc, &mut self.cache, &mut self.pool, &self.repo) {
+            Ok(elements) => Ok(elements),
+            Err(_) => {
+                self.repo.let_models_go();
+                elements_at_head(alloc, &mut self.cache, &mut self.pool, &self.repo)
+            }
+        }
     }
 
     /// Answers a command: its event is in the file before its reply is printed.

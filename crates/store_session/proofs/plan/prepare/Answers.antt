@@ -1,14 +1,33 @@
-use Rattle.std.proofs.Common.{sym, subst}
+-- What a second try prepares is what the first one would have.
+use Rattle.std.proofs.Common.{◌≡◌, ◌∙◌, sym, subst}
+use Rattle.std.specs.Prelude.{IfOk, OnErr, OnOk}
+use Rattle.command_runs.specs.Runs.{after}
 use Rattle.plain_repository.specs.State.{State}
+use Rattle.plain_repository.specs.Events.{play}
+use Rattle.plain_repository.specs.Repository.{decide_line}
 use Rattle.repo_state.specs.Cached.{HasForms}
-use Rattle.store_session.proofs.Holding.{all_may, all_on}
+use Rattle.store_session.specs.Session.{IsPlan}
 use Rattle.store_session.proofs.plan.prepare.Goals as goal
 
-pub decide-requires-clause-usable : goal.decide-requires-clause-usable
-decide-requires-clause-usable c = all_may c.args.pool.now c.args.cache.now c.requires.all
+pub prepare_once-requires-in-Err-clause-all : goal.prepare_once-requires-in-Err-clause-all
+prepare_once-requires-in-Err-clause-all c = c.in-Err.ensures.all
 
-pub make_ready-requires-clause-all : goal.make_ready-requires-clause-all
-make_ready-requires-clause-all c = all_on c.args.pool.now c.decide.new.pool c.args.cache.now c.decide.new.cache c.requires.all c.decide.ensures.uses
+pub prepare_once-requires-in-Err-clause-forms : goal.prepare_once-requires-in-Err-clause-forms
+prepare_once-requires-in-Err-clause-forms c =
+    subst (λ (s : State). HasForms s c.prepare_once.new.pool c.prepare_once.new.cache) (sym c.let_models_go.ensures.same) c.prepare_once.ensures.forms
 
-pub make_ready-requires-clause-forms : goal.make_ready-requires-clause-forms
-make_ready-requires-clause-forms c = subst (λ (s : State). HasForms s c.decide.new.pool c.decide.new.cache) (sym c.decide.ensures.same) c.decide.ensures.forms
+pub returns-in-Err-clause-plan : goal.returns-in-Err-clause-plan
+returns-in-Err-clause-plan c =
+    subst (λ (s : State). IfOk c.prepare_once-in-Err.result (IsPlan c.prepare_once-in-Err.new.pool s (decide_line s c.args.line.now c.args.block.now)))
+    (c.let_models_go.ensures.same ∙ c.in-Err.ensures.same) c.prepare_once-in-Err.ensures.plan
+
+pub returns-in-Err-clause-state : goal.returns-in-Err-clause-state
+returns-in-Err-clause-state c =
+    subst (λ (s : State). OnOk c.prepare_once-in-Err.result
+    (c.prepare_once-in-Err.new.repo ≡ after play s (decide_line s c.args.line.now c.args.block.now).event))
+    (c.let_models_go.ensures.same ∙ c.in-Err.ensures.same) c.prepare_once-in-Err.ensures.state
+
+pub returns-in-Err-clause-same : goal.returns-in-Err-clause-same
+returns-in-Err-clause-same c =
+    subst (λ (s : State). OnErr c.prepare_once-in-Err.result (c.prepare_once-in-Err.new.repo ≡ s)) (c.let_models_go.ensures.same ∙ c.in-Err.ensures.same)
+    c.prepare_once-in-Err.ensures.same
