@@ -53,25 +53,26 @@ module _ (file : List ℕ) (gate : ℕ) where
       ∙ four_behind (drop gate file) (omega (arith, length-drop gate file, long))
       ∙ ap (λ (l : List ℕ). take 4 l) (drop-drop 1 gate file)
 
+  -- a record at the gate ends within the file
+  within_file : (form : List ℕ) → take (5 + length form) (drop gate file) ≡ record_of form → 5 + length form ≤ length file - gate
+  within_file form is = omega (arith, ap length is, length-record_of form, length-take (5 + length form) (drop gate file), length-drop gate file)
+
   pub past_end : length file ≤ gate → IsStuck file gate
   past_end past = record {
     not_closed = λ below. absurd (omega (arith, past, below));
-    no_record = λ form small below is.
-        absurd (omega (arith, ap length is, length-record_of form, length-take (5 + length form) (drop gate file), length-drop gate file));
+    no_record = λ form small below is. absurd (omega (arith, within_file form is));
   }
 
   pub too_short : gate < length file → get_or file gate 0 ≡ open_gate → length file - gate < 5 → IsStuck file gate
   too_short low is_open short = record {
     not_closed = λ below. is_open;
-    no_record = λ form small below is.
-        absurd (omega (arith, ap length is, length-record_of form, length-take (5 + length form) (drop gate file), length-drop gate file));
+    no_record = λ form small below is. absurd (omega (arith, within_file form is));
   }
 
   field_is : (form : List ℕ) → take (5 + length form) (drop gate file) ≡ record_of form → take 4 (drop (gate + 1) file) ≡ four_bytes (length form)
   field_is form is =
       let n = length form in
-      let long : 5 + length form ≤ length file - gate =
-      omega (arith, ap length is, length-record_of form, length-take (5 + length form) (drop gate file), length-drop gate file) in
+      let long = within_file form is in
       let one : length (take 1 (drop gate file)) ≡ 1 = omega (arith, length-take 1 (drop gate file), length-drop gate file, long) in
       let four : length (take 4 (drop (gate + 1) file)) ≡ 4 = omega (arith, length-take 4 (drop (gate + 1) file), length-drop (gate + 1) file, long) in
       sym (take_at (take 4 (drop (gate + 1) file)) (take n (drop (gate + 5) file)) 4 four)
@@ -84,8 +85,7 @@ module _ (file : List ℕ) (gate : ℕ) where
   no_room size is_open spelt low none = record {
     not_closed = λ below. is_open;
     no_record = λ form small below is.
-        let long : 5 + length form ≤ length file - gate =
-        omega (arith, ap length is, length-record_of form, length-take (5 + length form) (drop gate file), length-drop gate file) in
+        let long = within_file form is in
         let size_same : size ≡ length form =
         sym (value_of-four_bytes size low) ∙ ap (from_be_bytes w32) (sym spelt ∙ field_is form is)
         ∙ value_of-four_bytes (length form) (omega arith) in

@@ -222,17 +222,19 @@ scalar_is rows q h = type_counted q 0 0 0 rows h ∙ none_less (number_of q (map
 
 -- ---- features
 module _ (class feature : Name) where
+  -- where the pair stands among the features of a class of that name and the pairs after them, counted from i on
+  abbrev place_among : Name → List FeatureRow → ℕ → List (Name × Name) → Option ℕ
+  place_among name fs i ks = position_from (is_pair class feature) i (map (λ (f : FeatureRow). (name, f.name)) fs ++ ks)
+
   -- no feature of a class of another name
   missed : (name : Name) (fs : List FeatureRow) (i : ℕ) (ks : List (Name × Name)) → bytes_eq class name ≡ false
-      → position_from (is_pair class feature) i (map (λ (f : FeatureRow). (name, f.name)) fs ++ ks) ≡ position_from (is_pair class feature)
-      (i + length fs) ks
+      → place_among name fs i ks ≡ position_from (is_pair class feature) (i + length fs) ks
   missed name [] i ks h = ap (λ j. position_from (is_pair class feature) j ks) (zero_more i)
     where
       zero_more : (i : ℕ) → i ≡ i + 0
       zero_more i = omega arith
   missed name (f ∷ fs) i ks h =
-      ap (λ b. cond (b && bytes_eq feature f.name) (Some i)
-      (position_from (is_pair class feature) (i + 1) (map (λ (f : FeatureRow). (name, f.name)) fs ++ ks))) h
+      ap (λ b. cond (b && bytes_eq feature f.name) (Some i) (place_among name fs (i + 1) ks)) h
       ∙ missed name fs (i + 1) ks h ∙ ap (λ j. position_from (is_pair class feature) j ks) (shift i (length fs))
     where
       shift : (i n : ℕ) → i + 1 + n ≡ i + suc n
@@ -250,12 +252,10 @@ module _ (class feature : Name) where
   -- a feature of the class of that name, where no later one has the name
   found : (name : Name) (fs : List FeatureRow) (i : ℕ) (ks : List (Name × Name)) → bytes_eq class name ≡ true
       → ((j : ℕ) → position_from (is_pair class feature) j ks ≡ None)
-      → position_from (is_pair class feature) i (map (λ (f : FeatureRow). (name, f.name)) fs ++ ks) ≡ option_map (λ k. i + k)
-      (number_of feature (feature_names fs))
+      → place_among name fs i ks ≡ option_map (λ k. i + k) (number_of feature (feature_names fs))
   found name [] i ks h none = none i
   found name (f ∷ fs) i ks h none =
-      ap (λ b. cond (b && bytes_eq feature f.name) (Some i)
-      (position_from (is_pair class feature) (i + 1) (map (λ (f : FeatureRow). (name, f.name)) fs ++ ks))) h
+      ap (λ b. cond (b && bytes_eq feature f.name) (Some i) (place_among name fs (i + 1) ks)) h
       ∙ by_test (bytes_eq feature f.name) (found name fs (i + 1) ks h none)
     where
       zero_more : (i : ℕ) → i ≡ i + 0
@@ -268,10 +268,9 @@ module _ (class feature : Name) where
       shifted None = refl
       shifted (Some n) = ap (λ (k : ℕ). Some k) (plus i n)
 
-      by_test : (b : Bool) → position_from (is_pair class feature) (i + 1) (map (λ (f : FeatureRow). (name, f.name)) fs ++ ks) ≡ option_map
-          (λ k. i + 1 + k) (number_of feature (feature_names fs))
-          → cond b (Some i) (position_from (is_pair class feature) (i + 1) (map (λ (f : FeatureRow). (name, f.name)) fs ++ ks)) ≡ option_map
-          (λ k. i + k) (cond b (Some 0) (option_map (λ n. suc n) (number_of feature (feature_names fs))))
+      by_test : (b : Bool) → place_among name fs (i + 1) ks ≡ option_map (λ k. i + 1 + k) (number_of feature (feature_names fs))
+          → cond b (Some i) (place_among name fs (i + 1) ks)
+          ≡ option_map (λ k. i + k) (cond b (Some 0) (option_map (λ n. suc n) (number_of feature (feature_names fs))))
       by_test true more = ap (λ (k : ℕ). Some k) (zero_more i)
       by_test false more = more ∙ shifted (number_of feature (feature_names fs))
 

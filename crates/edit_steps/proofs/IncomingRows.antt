@@ -75,10 +75,18 @@ module _ (meta : Meta) (sound : Sound meta) (row : Rows) (slots : List AttrKey) 
   swept [] now = now
   swept (e ∷ es) now = cond (wanted e) (swept es (set now e.0 None)) (swept es now)
 
+  -- those of some entries that end at x, as x sees them; and of these the ones that are left
+  abbrev ending_of : List (RowKey × ℕ) → List (RowKey × ℕ)
+  ending_of es = filter (λ (e : RowKey × ℕ). text_eq x e.0.2) es
+
+  abbrev is_left : Incoming → Bool
+  is_left i = not (is_touched meta slots (i.source, i.feature, x))
+
+  abbrev left_of : List (RowKey × ℕ) → List Incoming
+  left_of es = filter is_left (map row_incoming (ending_of es))
+
   abbrev made_of : List (RowKey × ℕ) → List Step
-  made_of es = map (incoming_unlink meta row x)
-      (filter (λ (i : Incoming). not (is_touched meta slots (i.source, i.feature, x)))
-      (map row_incoming (filter (λ (e : RowKey × ℕ). text_eq x e.0.2) es)))
+  made_of es = map (incoming_unlink meta row x) (left_of es)
 
   -- an entry that is wanted makes a step, and no other does
   abbrev step_of : RowKey × ℕ → Step
@@ -88,28 +96,18 @@ module _ (meta : Meta) (sound : Sound meta) (row : Rows) (slots : List AttrKey) 
   made_more e es =
       elim (text_eq x e.0.2) as (λ b. text_eq x e.0.2 ≡ b
       → map (incoming_unlink meta row x)
-      (filter (λ (i : Incoming). not (is_touched meta slots (i.source, i.feature, x)))
-      (map row_incoming (cond {A = List (RowKey × ℕ)} b (e ∷ filter (λ (e : RowKey × ℕ). text_eq x e.0.2) es)
-      (filter (λ (e : RowKey × ℕ). text_eq x e.0.2) es)))) ≡ cond (b && not (is_touched meta slots e.0)) (step_of e ∷ made_of es) (made_of es)) [
+      (filter is_left (map row_incoming (cond {A = List (RowKey × ℕ)} b (e ∷ ending_of es) (ending_of es))))
+      ≡ cond (b && not (is_touched meta slots e.0)) (step_of e ∷ made_of es) (made_of es)) [
         | false ↦ λ _. refl
         | true ↦ λ is.
             let key : is_touched meta slots (e.0.0, e.0.1, x) ≡ is_touched meta slots e.0 =
             ap (λ (z : IdBytes). is_touched meta slots (e.0.0, e.0.1, z)) (text_equality.exact x e.0.2 is) in
-            ap (λ t. map (incoming_unlink meta row x)
-            (cond {A = List Incoming} (not t)
-            (row_incoming e ∷ filter (λ (i : Incoming). not (is_touched meta slots (i.source, i.feature, x)))
-            (map row_incoming (filter (λ (e : RowKey × ℕ). text_eq x e.0.2) es)))
-            (filter (λ (i : Incoming). not (is_touched meta slots (i.source, i.feature, x)))
-            (map row_incoming (filter (λ (e : RowKey × ℕ). text_eq x e.0.2) es))))) key
+            ap (λ t. map (incoming_unlink meta row x) (cond {A = List Incoming} (not t) (row_incoming e ∷ left_of es) (left_of es))) key
             ∙ taken (is_touched meta slots e.0)
       ] refl
     where
-      taken : (t : Bool) → map (incoming_unlink meta row x)
-          (cond {A = List Incoming} (not t)
-          (row_incoming e ∷ filter (λ (i : Incoming). not (is_touched meta slots (i.source, i.feature, x)))
-          (map row_incoming (filter (λ (e : RowKey × ℕ). text_eq x e.0.2) es)))
-          (filter (λ (i : Incoming). not (is_touched meta slots (i.source, i.feature, x)))
-          (map row_incoming (filter (λ (e : RowKey × ℕ). text_eq x e.0.2) es)))) ≡ cond (not t) (step_of e ∷ made_of es) (made_of es)
+      taken : (t : Bool) → map (incoming_unlink meta row x) (cond {A = List Incoming} (not t) (row_incoming e ∷ left_of es) (left_of es))
+          ≡ cond (not t) (step_of e ∷ made_of es) (made_of es)
       taken true = refl
       taken false = refl
 

@@ -40,13 +40,18 @@ walks_is old new result r s h p = subst (Walks old new result) p h
 
 -- ---- one element
 module _ (meta : Meta) (ids : Ids) (parent : Option DocParent) (default : Option ℕ) where
+  -- the rows of an element of a class by its id, and those of the keys of an object by its class
+  abbrev by_id : ℕ → Members → Option IdBytes → Read (List Draft)
+  by_id c ms id = own_rows parent id c (members_rows meta c (length ids) (ids ++ id ∷ []) no_part ms)
+
+  abbrev by_class : Members → ℕ → Read (List Draft)
+  by_class ms c = «then» (id_of ids (get (codes "_id") (object ms))) (by_id c ms)
+
   pub class_fault : (d : Data) (ms : Members) (o : Option Data) (e : ModelFault) → d ≡ object ms → o ≡ get (codes "eClass") d
       → IsFault e (class_of meta default o) → IsFault e (element_rows meta ids parent default d)
   unfolding element_rows
   class_fault d ms o e is at h =
-      let f : ℕ → Read (List Draft) =
-      λ c. «then» (id_of ids (get (codes "_id") (object ms)))
-      (λ id. own_rows parent id c (members_rows meta c (length ids) (ids ++ id ∷ []) no_part ms)) in
+      let f : ℕ → Read (List Draft) = by_class ms in
       fault_is e _ _ (fault_then e (class_of meta default o) f h)
       (ap (λ o. «then» (class_of meta default o) f) (at ∙ ap (get (codes "eClass")) is) ∙ sym (ap (element_rows meta ids parent default) is))
 
@@ -55,10 +60,8 @@ module _ (meta : Meta) (ids : Ids) (parent : Option DocParent) (default : Option
       → IsFault e (element_rows meta ids parent default d)
   unfolding element_rows
   id_fault d ms o q c e is at class at' h =
-      let g : Option IdBytes → Read (List Draft) = λ id. own_rows parent id c (members_rows meta c (length ids) (ids ++ id ∷ []) no_part ms) in
-      let f : ℕ → Read (List Draft) =
-      λ c. «then» (id_of ids (get (codes "_id") (object ms)))
-      (λ id. own_rows parent id c (members_rows meta c (length ids) (ids ++ id ∷ []) no_part ms)) in
+      let g : Option IdBytes → Read (List Draft) = by_id c ms in
+      let f : ℕ → Read (List Draft) = by_class ms in
       let known : class_of meta default (get (codes "eClass") (object ms)) ≡ Ok c =
       ap (class_of meta default) (sym (at ∙ ap (get (codes "eClass")) is)) ∙ class in
       fault_is e _ _ (fault_then e (id_of ids q) g h)
@@ -69,10 +72,8 @@ module _ (meta : Meta) (ids : Ids) (parent : Option DocParent) (default : Option
       → own_rows parent id c (members_rows meta c (length ids) (ids ++ id ∷ []) no_part ms) ≡ element_rows meta ids parent default d
   unfolding element_rows
   object_is d ms o q c id is at class at' read =
-      let g : Option IdBytes → Read (List Draft) = λ id. own_rows parent id c (members_rows meta c (length ids) (ids ++ id ∷ []) no_part ms) in
-      let f : ℕ → Read (List Draft) =
-      λ c. «then» (id_of ids (get (codes "_id") (object ms)))
-      (λ id. own_rows parent id c (members_rows meta c (length ids) (ids ++ id ∷ []) no_part ms)) in
+      let g : Option IdBytes → Read (List Draft) = by_id c ms in
+      let f : ℕ → Read (List Draft) = by_class ms in
       let known : class_of meta default (get (codes "eClass") (object ms)) ≡ Ok c =
       ap (class_of meta default) (sym (at ∙ ap (get (codes "eClass")) is)) ∙ class in
       let named : id_of ids (get (codes "_id") (object ms)) ≡ Ok id = ap (id_of ids) (sym (at' ∙ ap (get (codes "_id")) is)) ∙ read in
@@ -176,6 +177,10 @@ module _ (meta : Meta) (first : List Draft) (parent : Option DocParent) (default
   unfolding items_rows
   items_end now all so = (so.0, so.2, so.1)
 
+-- the rows that a feature of an element holds in a value
+abbrev pub rows_held : Meta → Ids → ℕ → Data → ℕ → ℕ → Read (List Draft)
+rows_held meta ids own d f target = held_rows meta ids (record { row = own; feature = f }) target d
+
 -- ---- the keys of an object
 module _ (meta : Meta) (c own : ℕ) (first : List Draft) where
   abbrev pub PartSoFar : List Draft → List DocAttr → List Links → Members → Members → Type 0
@@ -184,12 +189,12 @@ module _ (meta : Meta) (c own : ℕ) (first : List Draft) where
       × (members_rows meta c own (ids_of first) no_part all ≡ members_rows meta c own (ids_of first) done rest)
 
   abbrev at_key : Ids → Name → Data → Read Part
-  at_key ids k d = key_part meta (key_named meta c k) d (λ f target. held_rows meta ids (record { row = own; feature = f }) target d)
+  at_key ids k d = key_part meta (key_named meta c k) d (rows_held meta ids own d)
 
   pub members_step : {T : Type 0} (now after : List Draft) (attrs attrs' : List DocAttr) (links links' : List Links) (x : T) (all : Members)
       (k : Name) (d : Data) (ms : Members) → PartSoFar now attrs links all (member k d ms)
       → AppendsPart {T = T} attrs attrs' links links' now after (Ok x)
-      (key_part meta (key_named meta c k) d (λ f target. held_rows meta (ids_of now) (record { row = own; feature = f }) target d))
+      (key_part meta (key_named meta c k) d (rows_held meta (ids_of now) own d))
       → PartSoFar after attrs' links' all ms
   unfolding members_rows
   members_step now after attrs attrs' links links' x all k d ms so holds =
@@ -203,7 +208,7 @@ module _ (meta : Meta) (c own : ℕ) (first : List Draft) where
 
   pub members_fault : (now : List Draft) (attrs : List DocAttr) (links : List Links) (e : ModelFault) (all : Members) (k : Name) (d : Data)
       (ms : Members) → PartSoFar now attrs links all (member k d ms)
-      → IsFault e (key_part meta (key_named meta c k) d (λ f target. held_rows meta (ids_of now) (record { row = own; feature = f }) target d))
+      → IsFault e (key_part meta (key_named meta c k) d (rows_held meta (ids_of now) own d))
       → IsFault e (members_rows meta c own (ids_of first) no_part all)
   unfolding members_rows
   members_fault now attrs links e all k d ms so h =

@@ -261,6 +261,10 @@ module _ {X : Type 0} {Is : X → Type 0} {form : X → List ℕ} {read : Readin
   at_least_one : (n : ℕ) → nat_eq n 0 ≡ false → 1 ≤ n
   at_least_one n e = grind (arith, e)
 
+  -- the items behind a count that was read, of which there is one at least
+  abbrev items_behind : ℕ → Result (ℕ × Rest) FormFault → Result (List X × Rest) FormFault
+  items_behind place r = r >>= λ count. cond (nat_eq count.0 0) (Err (NotForm place)) (items_at read count.0 count.1)
+
   some_counted : (bytes : List ℕ) (place : ℕ) → AreBytes bytes → (fault : FormFault) (n : ℕ) (mid : Rest) → u32_at (at bytes place) ≡ Ok (n, mid)
       → (b : Bool) → nat_eq n 0 ≡ b
       → cond b (Err (NotForm place)) (items_at read n mid) ≡ Err fault → Fault (IsSomeList Is) (list_fields fields) (some_at read) bytes place fault
@@ -273,26 +277,23 @@ module _ {X : Type 0} {Is : X → Type 0} {form : X → List ℕ} {read : Readin
       (λ other same.
       let m = same_past (u32_encoding n) 0 4 mid.bytes other (omega (arith, number_length n)) (subst (λ bs. IsSameUpTo 4 bs other) s.bytes same) in
       ap (λ bs. some_at read (at bs place)) m.1
-      ∙ ap (λ r. r >>= λ count. cond (nat_eq count.0 0) (Err (NotForm place)) (items_at read count.0 count.1)) (u32_codes.again n s.is m.0 place)
+      ∙ ap (items_behind place) (u32_codes.again n s.is m.0 place)
       ∙ ap (λ b. cond b (Err (NotForm place)) (items_at read n (at m.0 (place + length (u32_encoding n))))) none ∙ ap Err (sym is))
   some_counted bytes place are fault n mid read_is false some e =
       counted (IsSomeList Is) (some_at read) n mid bytes place are fault read_is
       (λ lt xs is. (omega (arith, is.0, at_least_one n some), omega (arith, is.0, lt), is.1))
       (λ other after read_other.
-      ap (λ r. r >>= λ count. cond (nat_eq count.0 0) (Err (NotForm place)) (items_at read count.0 count.1)) read_other
-      ∙ ap (λ b. cond b (Err (NotForm place)) (items_at read n after)) some) e
+      ap (items_behind place) read_other ∙ ap (λ b. cond b (Err (NotForm place)) (items_at read n after)) some) e
 
   some_faults : (bytes : List ℕ) (place : ℕ) → AreBytes bytes → (fault : FormFault) → (r : Result (ℕ × Rest) FormFault) → u32_at (at bytes place) ≡ r
-      → (r >>= λ count. cond (nat_eq count.0 0) (Err (NotForm place)) (items_at read count.0 count.1)) ≡ Err fault
-      → Fault (IsSomeList Is) (list_fields fields) (some_at read) bytes place fault
+      → items_behind place r ≡ Err fault → Fault (IsSomeList Is) (list_fields fields) (some_at read) bytes place fault
   unfolding some_at
   some_faults bytes place are fault (Err f) read_is e =
       let same : fault ≡ f = err_is f fault e in
       let k = number_fails w32 (Number 0) (λ bs. refl) bytes place f read_is in
       at_first (IsSomeList Is) (list_fields fields) (some_at read) (exact.sample ∷ []) one_item bytes place fault (Number 1)
       (items_fields fields (exact.sample ∷ [])) refl (same ∙ k.0)
-      (λ other alike. ap (λ r. r >>= λ count. cond (nat_eq count.0 0) (Err (NotForm place)) (items_at read count.0 count.1)) (k.1 other alike)
-      ∙ ap Err (sym same))
+      (λ other alike. ap (items_behind place) (k.1 other alike) ∙ ap Err (sym same))
   some_faults bytes place are fault (Ok count) read_is e = some_counted bytes place are fault count.0 count.1 read_is (nat_eq count.0 0) refl e
 
   pub some_exact : Exact (some_codes codes) (list_fields fields)

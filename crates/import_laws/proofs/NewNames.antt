@@ -26,6 +26,10 @@ found : (e : IdBytes) (r : DocRow) (rest : List DocRow) → r.id ≡ Some e → 
 found e r rest is = ap (λ (b : Bool). b || list_any (gives_id e) rest) (ap (λ (o : Option IdBytes). option_eq text_eq (Some e) o) is ∙ text_equality.own e)
 
 module _ (m : State) (rows : List DocRow) (ws : ℕ) where
+  -- the ids that these rows give are given by the document's
+  abbrev AreGiven : List DocRow → Type 0
+  AreGiven rest = (id : IdBytes) → list_any (gives_id id) rest ≡ true → list_any (gives_id id) rows ≡ true
+
   free_is : (k : ℕ) → is_taken m rows (numbered ws k) ≡ false → (is_live m (numbered ws k) ≡ false) × (list_any (gives_id (numbered ws k)) rows ≡ false)
   free_is k h = (
     or_first (is_live m (numbered ws k)) (list_any (gives_id (numbered ws k)) rows) h,
@@ -100,8 +104,8 @@ module _ (m : State) (rows : List DocRow) (ws : ℕ) where
       further k from j next p q r = omega arith
 
   fresh_apart : (k : ℕ) → k < 2 ^ 64 → list_any (gives_id (numbered ws k)) rows ≡ false → (from : ℕ) → k < from
-      → (rest : List DocRow) (names : List IdBytes) → AreNames m rows ws from rest names
-      → ((id : IdBytes) → list_any (gives_id id) rest ≡ true → list_any (gives_id id) rows ≡ true) → list_any (text_eq (numbered ws k)) names ≡ false
+      → (rest : List DocRow) (names : List IdBytes) → AreNames m rows ws from rest names → AreGiven rest
+      → list_any (text_eq (numbered ws k)) names ≡ false
   fresh_apart k small none from less [] [] are within = refl
   fresh_apart k small none from less [] (y ∷ ys) are within = absurd are
   fresh_apart k small none from less (r ∷ rest) [] are within = absurd are
@@ -119,8 +123,7 @@ module _ (m : State) (rows : List DocRow) (ws : ℕ) where
   first_apart : (from : ℕ) (o : Option IdBytes) (x : IdBytes) (next : ℕ) → IsName m rows ws from o x next
       → (rest : List DocRow) (names : List IdBytes) → AreNames m rows ws next rest names
       → ((id : IdBytes) → o ≡ Some id → list_any (gives_id id) rows ≡ true)
-      → ((id : IdBytes) → list_any (gives_id id) rest ≡ true → list_any (gives_id id) rows ≡ true) → is_given o rest ≡ false
-      → list_any (text_eq x) names ≡ false
+      → AreGiven rest → is_given o rest ≡ false → list_any (text_eq x) names ≡ false
   first_apart from (Some id) x next is rest names are here within h =
       ap (λ z. list_any (text_eq z) names) is.0 ∙ given_apart id (here id refl) next rest names are h
   first_apart from None x next is rest names are here within h =
@@ -133,14 +136,13 @@ module _ (m : State) (rows : List DocRow) (ws : ℕ) where
       after : (j next : ℕ) → next ≡ j + 1 → j < next
       after j next h = omega arith
 
-  all_apart : (from : ℕ) (rest : List DocRow) (names : List IdBytes) → AreNames m rows ws from rest names
-      → ((id : IdBytes) → list_any (gives_id id) rest ≡ true → list_any (gives_id id) rows ≡ true) → ids_repeat rest ≡ false → ids_differ names ≡ true
+  all_apart : (from : ℕ) (rest : List DocRow) (names : List IdBytes) → AreNames m rows ws from rest names → AreGiven rest
+      → ids_repeat rest ≡ false → ids_differ names ≡ true
   all_apart from [] [] are within h = refl
   all_apart from [] (x ∷ xs) are within h = absurd are
   all_apart from (r ∷ rest) [] are within h = absurd are
   all_apart from (r ∷ rest) (x ∷ xs) are within h =
-      let more : (id : IdBytes) → list_any (gives_id id) rest ≡ true
-      → list_any (gives_id id) rows ≡ true = λ id g. within id (behind (gives_id id r) (list_any (gives_id id) rest) g) in
+      let more : AreGiven rest = λ id g. within id (behind (gives_id id r) (list_any (gives_id id) rest) g) in
       and_both (not (list_any (text_eq x) xs)) (ids_differ xs)
       (ap not (first_apart from r.id x are.0 are.1 rest xs are.2 (λ id is. within id (found id r rest is)) more
       (or_first (is_given r.id rest) (ids_repeat rest) h)))

@@ -66,42 +66,39 @@ kept_more p first k xs b is at =
 
 -- ---- the first part that is lost
 module _ (name : ℕ → Name) (kept : ℕ → Bool) where
+  -- the first that is lost among m parts, counted from a on
+  abbrev pub lost_among : ℕ → ℕ → Option Name
+  lost_among a m = first_lost (map (λ k. (name k, kept k)) (range_with_len a m))
+
   pub lost_from : (a m c : ℕ) → ((k : ℕ) → a ≤ k → k < c → kept k ≡ true) → a ≤ c → c < a + m → kept c ≡ false
-      → first_lost (map (λ k. (name k, kept k)) (range_with_len a m)) ≡ Some (name c)
+      → lost_among a m ≡ Some (name c)
   lost_from a zero c all le lt lost = absurd (omega arith)
   lost_from a (suc m) c all le lt lost =
       by_number (nat_eq a c) refl (λ low. lost_from (a + 1) m c (λ k le less. all k (omega arith) less) low (omega arith) lost)
     where
-      rest : List (Name × Bool)
-      rest = map (λ k. (name k, kept k)) (range_with_len (a + 1) m)
-
-      by_number : (b : Bool) → nat_eq a c ≡ b
-          → (a + 1 ≤ c → first_lost (map (λ k. (name k, kept k)) (range_with_len (a + 1) m)) ≡ Some (name c))
-          → cond (kept a) (first_lost (map (λ k. (name k, kept k)) (range_with_len (a + 1) m))) (Some (name a)) ≡ Some (name c)
+      by_number : (b : Bool) → nat_eq a c ≡ b → (a + 1 ≤ c → lost_among (a + 1) m ≡ Some (name c))
+          → cond (kept a) (lost_among (a + 1) m) (Some (name a)) ≡ Some (name c)
       by_number true e more =
           let s : a ≡ c = nat_same a c e in
-          ap (λ b. cond b (first_lost (map (λ k. (name k, kept k)) (range_with_len (a + 1) m))) (Some (name a))) (ap kept s ∙ lost)
-          ∙ ap (λ (k : ℕ). Some (name k)) s
+          ap (λ b. cond b (lost_among (a + 1) m) (Some (name a))) (ap kept s ∙ lost) ∙ ap (λ (k : ℕ). Some (name k)) s
       by_number false e more =
           let low : a + 1 ≤ c = above a c le e in
-          ap (λ b. cond b (first_lost (map (λ k. (name k, kept k)) (range_with_len (a + 1) m))) (Some (name a)))
-          (all a (omega arith) (omega (arith, low))) ∙ more low
+          ap (λ b. cond b (lost_among (a + 1) m) (Some (name a))) (all a (omega arith) (omega (arith, low))) ∙ more low
         where
           above : (a k : ℕ) → a ≤ k → nat_eq a k ≡ false → a + 1 ≤ k
           above a k low f = grind (arith, nat_tests)
 
-  pub none_from : (a m : ℕ) → ((k : ℕ) → a ≤ k → k < a + m → kept k ≡ true) → first_lost (map (λ k. (name k, kept k)) (range_with_len a m)) ≡ None
+  pub none_from : (a m : ℕ) → ((k : ℕ) → a ≤ k → k < a + m → kept k ≡ true) → lost_among a m ≡ None
   none_from a zero all = refl
   none_from a (suc m) all =
-      ap (λ b. cond b (first_lost (map (λ k. (name k, kept k)) (range_with_len (a + 1) m))) (Some (name a))) (all a (omega arith) (omega arith))
+      ap (λ b. cond b (lost_among (a + 1) m) (Some (name a))) (all a (omega arith) (omega arith))
       ∙ none_from (a + 1) m (λ k le less. all k (omega arith) (omega arith))
 
   -- the first that is lost, after those that are kept
-  pub lost_at : (m c : ℕ) → ((k : ℕ) → k < c → kept k ≡ true) → c < m → kept c ≡ false
-      → Some (name c) ≡ first_lost (map (λ k. (name k, kept k)) (range_with_len 0 m))
+  pub lost_at : (m c : ℕ) → ((k : ℕ) → k < c → kept k ≡ true) → c < m → kept c ≡ false → Some (name c) ≡ lost_among 0 m
   lost_at m c all lt lost = sym (lost_from 0 m c (λ k le less. all k less) (omega arith) (omega arith) lost)
 
-  pub none_lost : (m c : ℕ) → ((k : ℕ) → k < c → kept k ≡ true) → m ≤ c → None ≡ first_lost (map (λ k. (name k, kept k)) (range_with_len 0 m))
+  pub none_lost : (m c : ℕ) → ((k : ℕ) → k < c → kept k ≡ true) → m ≤ c → None ≡ lost_among 0 m
   none_lost m c all le = sym (none_from 0 m (λ k low less. all k (omega arith)))
 
 pub one_more : (kept : ℕ → Bool) (c : ℕ) → ((k : ℕ) → k < c → kept k ≡ true) → kept c ≡ true → (k : ℕ) → k < c + 1 → kept k ≡ true
@@ -185,19 +182,16 @@ short_more (e ∷ es) x all here = (all.0, short_more es x all.1 here)
 
 -- ---- what is missing, part by part
 module _ (o n : Meta) where
-  pub after_uri : bytes_eq o.uri n.uri ≡ true
-      → missing o n ≡ first_lost (map (λ c. (class_name o c, class_kept o n c)) (range_with_len 0 (length o.classes))
-      ++ (map (λ e. (enum_name o e, enum_kept o n e)) (range_with_len 0 (length o.enums)) ++ map (λ f. (full_name o f, feature_kept o n f))
-      (range_with_len 0 (length o.features))))
+  -- each part of the old metamodel, its name and whether the new one keeps it
+  abbrev pub parts_kept : List (Name × Bool)
+  parts_kept = map (λ c. (class_name o c, class_kept o n c)) (range_with_len 0 (length o.classes))
+      ++ (map (λ e. (enum_name o e, enum_kept o n e)) (range_with_len 0 (length o.enums))
+      ++ map (λ f. (full_name o f, feature_kept o n f)) (range_with_len 0 (length o.features)))
+
+  pub after_uri : bytes_eq o.uri n.uri ≡ true → missing o n ≡ first_lost parts_kept
   unfolding missing
-  after_uri same = ap (λ b. cond b
-      (first_lost (map (λ c. (class_name o c, class_kept o n c)) (range_with_len 0 (length o.classes))
-      ++ (map (λ e. (enum_name o e, enum_kept o n e)) (range_with_len 0 (length o.enums)) ++ map (λ f. (full_name o f, feature_kept o n f))
-      (range_with_len 0 (length o.features))))) (Some (codes "nsURI"))) same
+  after_uri same = ap (λ b. cond b (first_lost parts_kept) (Some (codes "nsURI"))) same
 
   pub uri_lost : bytes_eq o.uri n.uri ≡ false → missing o n ≡ Some (codes "nsURI")
   unfolding missing
-  uri_lost other = ap (λ b. cond b
-      (first_lost (map (λ c. (class_name o c, class_kept o n c)) (range_with_len 0 (length o.classes))
-      ++ (map (λ e. (enum_name o e, enum_kept o n e)) (range_with_len 0 (length o.enums)) ++ map (λ f. (full_name o f, feature_kept o n f))
-      (range_with_len 0 (length o.features))))) (Some (codes "nsURI"))) other
+  uri_lost other = ap (λ b. cond b (first_lost parts_kept) (Some (codes "nsURI"))) other

@@ -125,23 +125,24 @@ module _ (meta : Meta) (rows : List Draft) where
   pub given_fit : (given : List (List DocRefs)) → given_by meta rows ≡ Ok given → Paired (λ k r refs. ListsFit r refs) 0 rows given
   given_fit given h = all_pairs (λ k r refs. ListsFit r refs) (refs_of meta rows) (λ bs r refs e. lists_fit bs r refs e) rows given h
 
+  -- the row of that number is of a class that the feature may refer to
+  abbrev pub IsTyped : ℕ → ℕ → Type 0
+  IsTyped g b = (d : Draft) × (slice_get rows b ≡ Some d) × (plain_to meta (kind_of meta g) d.class ≡ true)
+
   -- a target that is given
   pub given_typed : (n : ℕ) (fs : List ℕ) (refs : List DocRefs) (g b : ℕ) → Paired (λ k f q. ListFits meta rows f q) n fs refs
-      → has (targets_at g refs) b ≡ true
-      → (has fs g ≡ true) × ((d : Draft) × (slice_get rows b ≡ Some d) × (plain_to meta (kind_of meta g) d.class ≡ true))
+      → has (targets_at g refs) b ≡ true → (has fs g ≡ true) × IsTyped g b
   given_typed n [] [] g b p h = cc
   given_typed n [] (q ∷ refs) g b p h = absurd p
   given_typed n (f ∷ fs) [] g b p h = absurd p
   given_typed n (f ∷ fs) (q ∷ refs) g b p h = by_test (nat_eq g q.feature) refl h (λ e. given_typed (suc n) fs refs g b p.1 e)
     where
       by_test : (t : Bool) → nat_eq g q.feature ≡ t → has (cond t q.targets (targets_at g refs)) b ≡ true
-          → (has (targets_at g refs) b ≡ true
-          → (has fs g ≡ true) × ((d : Draft) × (slice_get rows b ≡ Some d) × (plain_to meta (kind_of meta g) d.class ≡ true)))
-          → (has (f ∷ fs) g ≡ true) × ((d : Draft) × (slice_get rows b ≡ Some d) × (plain_to meta (kind_of meta g) d.class ≡ true))
+          → (has (targets_at g refs) b ≡ true → (has fs g ≡ true) × IsTyped g b) → (has (f ∷ fs) g ≡ true) × IsTyped g b
       by_test true is h later =
           let same : g ≡ f = nat_equality.exact g q.feature is ∙ sym p.0.0 in (
             has_left (f ∷ []) fs g (subst (λ x. has (f ∷ []) x ≡ true) (sym same) (has_left (f ∷ []) [] f (own f))),
-            subst (λ x. (d : Draft) × (slice_get rows b ≡ Some d) × (plain_to meta (kind_of meta x) d.class ≡ true)) (sym same) (p.0.1.typed b h),
+            subst (λ x. IsTyped x b) (sym same) (p.0.1.typed b h),
           )
         where
           own : (f : ℕ) → has (f ∷ []) f ≡ true

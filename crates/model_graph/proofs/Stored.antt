@@ -239,6 +239,11 @@ target_live m s a b f mirror view there =
     some_into (Some n) h = refl
 
 -- ---- copies of ids and places
+-- a list that was written under the id that is the element's
+pub written_for : (p : Place) (id e : IdBytes) (v : Option ℕ) (r : Ranks) (m : Elements) (r' : Ranks) (m' : Elements) → id ≡ e
+    → IsListWritten p id v r m r' m' → IsListWritten p e v r m r' m'
+written_for p id e v r m r' m' is w = subst (λ x. IsListWritten p x v r m r' m') is w
+
 pub made_lists : (n : Node) (e : IdBytes) (p : Place) (rank : ℕ) (id : IdBytes) (r : Ranks) (m one : Elements) (r' : Ranks) (m' : Elements) → id ≡ e
     → n.placed.place ≡ p → n.placed.rank ≡ rank → one ≡ set m e (Some n)
     → IsListWritten p id (Some rank) r one r' m' → IsListWritten n.placed.place e (Some n.placed.rank) r (set m e (Some n)) r' m'
@@ -246,7 +251,7 @@ made_lists n e p rank id r m one r' m' is place ranked first w =
     subst (λ q. IsListWritten q e (Some n.placed.rank) r (set m e (Some n)) r' m') (sym place)
     (subst (λ k. IsListWritten p e (Some k) r (set m e (Some n)) r' m') (sym ranked)
     (subst (λ (t : Elements). IsListWritten p e (Some rank) r t r' m') first
-    (subst (λ x. IsListWritten p x (Some rank) r one r' m') is w)))
+    (written_for p id e (Some rank) r one r' m' is w)))
 
 pub place_after : (m one : Elements) (e : IdBytes) (n : Node) (p : Place) → one ≡ set m e (Some n) → IsPlaceThere m p → IsPlaceThere one p
 place_after m one e n Root is live = tt

@@ -3,7 +3,7 @@ use Rattle.std.proofs.Common.{◌≡◌, ◌⊎◌, inl, inr, ⊎_elim, ℕ, ◌
 use Rattle.std.specs.Prelude.{IsTrue, map}
 use Rattle.std.proofs.lemmas.List.{append-nil}
 use Rattle.commit_journal.specs.Journal.{IsAtMostSynced}
-use Rattle.host_port.specs.Host.{Told, MayLeave, GoesOn, Throughout, KeepsSaid, KeepsInput, AddsPart, Rose, disk_now, said_now}
+use Rattle.host_port.specs.Host.{Told, Disk, MayLeave, GoesOn, Throughout, KeepsSaid, KeepsInput, AddsPart, Rose, disk_now, said_now}
 use Rattle.host_port.proofs.Course.{at_last, carry_on, told_next, adds_none, said_kept_now, still_disk, keeps_input_on}
 use Rattle.command_runs.specs.Runs.{played, replies, events, events_due}
 use Rattle.command_runs.specs.Crashes.{IsRunning, IsOpenedRunning}
@@ -24,6 +24,14 @@ use Rattle.store_session.specs.declared.status.Status.TheVariants.{Accepted, Ref
 use Rattle.store_session.specs.Endings.{Ends, IsDone, NothingRose, KeepsFile, IsFoundDamaged, IsUnsaid, IsUnopened, IsUnanswered, IsHalted, IsKept}
 use Rattle.store_session.specs.Endings.{session_status}
 use Rattle.store_session.specs.Tasks.{Task}
+
+-- at a moment of a task's run, whatever a crash leaves stands for the first events and some of the task's, or nothing was begun
+abbrev pub IsRunOf : Told → List Event → Task → Disk → List ℕ → Type 0
+IsRunOf entry first task = IsOpenedRunning (disk_now entry) StandsForEvents first (events task.answers) (events_due task.answers) (said_now entry)
+
+-- the file at the start is damaged at the offset, and stands for no events
+abbrev pub IsDamagedFrom : Told → ℕ → Type 0
+IsDamagedFrom entry at = IsTrue entry.tells → IsDamaged (disk_now entry).now at × StandsForNoEvents (disk_now entry).now
 
 -- no call at all leaves the file
 pub file_still : (a : Told) → KeepsFile a a
@@ -96,7 +104,7 @@ module _ (entry a : Told) (course : GoesOn entry a) (said : KeepsSaid entry a)
   opening_part = adds_none entry a (replies task.answers) said
 
   pub opening_moments : Throughout entry a
-      (IsOpenedRunning (disk_now entry) StandsForEvents first (events task.answers) (events_due task.answers) (said_now entry))
+      (IsRunOf entry first task)
   opening_moments told t low high =
       let none : length (a.said t) - length (said_now entry) ≤ 0 = omega (arith, ap length (said told t low high)) in
       ⊎_elim
@@ -123,6 +131,10 @@ module _ (entry a : Told) (course : GoesOn entry a) (said : KeepsSaid entry a)
     (stood : StandsForEvents (disk_now entry).now first)
     (b : Told) (input : KeepsInput entry a) (on : GoesOn a b) (now : State) (asked : State → List ℕ → Task)
     (opened : IsTrue entry.tells → (made : List Event) × IsStoreOf (disk_now a) now made × StandsForEvents (disk_now entry).now made) where
+  -- the task is done over the store as it was opened
+  abbrev pub IsDoneAs : Status → Type 0
+  IsDoneAs status = (made : List Event) → IsStoreOf (disk_now a) now made → IsDone (asked now a.left) made a b status
+
   holds_first : IsTrue entry.tells → IsStoreOf (disk_now a) now first
   holds_first told =
       let had = opened told in
@@ -134,12 +146,11 @@ module _ (entry a : Told) (course : GoesOn entry a) (said : KeepsSaid entry a)
   said_is : IsTrue entry.tells → said_now a ≡ said_now entry
   said_is told = said_kept_now entry a course said told
 
-  pub whole_ends : (status : Status) → ((made : List Event) → IsStoreOf (disk_now a) now made → IsDone (asked now a.left) made a b status)
-      → IsTrue entry.tells → Ends (asked (played play empty first) entry.left) first entry b status
+  pub whole_ends : (status : Status) → IsDoneAs status → IsTrue entry.tells → Ends (asked (played play empty first) entry.left) first entry b status
   whole_ends status done told = ends_from (asked (played play empty first) entry.left) first entry a b (said_is told) input status
       (subst (λ (t : Task). Ends t first a b status) (task_is told) ((done first (holds_first told)).ends (told_next entry a course told)))
 
-  pub whole_part : (status : Status) → ((made : List Event) → IsStoreOf (disk_now a) now made → IsDone (asked now a.left) made a b status)
+  pub whole_part : (status : Status) → IsDoneAs status
       → Throughout entry b (λ disk said. AddsPart (said_now entry) (replies (asked (played play empty first) entry.left).answers) said)
   whole_part status done told =
       carry_on entry a b (λ disk said. AddsPart (said_now entry) (replies (asked (played play empty first) entry.left).answers) said) course on
@@ -148,12 +159,10 @@ module _ (entry a : Told) (course : GoesOn entry a) (said : KeepsSaid entry a)
       (subst (λ (t : Task). Throughout a b (λ disk said. AddsPart (said_now a) (replies t.answers) said)) (task_is told)
       (done first (holds_first told)).part)) told
 
-  pub whole_moments : (status : Status) → ((made : List Event) → IsStoreOf (disk_now a) now made → IsDone (asked now a.left) made a b status)
-      → Throughout entry b (IsOpenedRunning (disk_now entry) StandsForEvents first (events (asked (played play empty first) entry.left).answers)
-      (events_due (asked (played play empty first) entry.left).answers) (said_now entry))
+  pub whole_moments : (status : Status) → IsDoneAs status
+      → Throughout entry b (IsRunOf entry first (asked (played play empty first) entry.left))
   whole_moments status done told = carry_on entry a b
-      (IsOpenedRunning (disk_now entry) StandsForEvents first (events (asked (played play empty first) entry.left).answers)
-      (events_due (asked (played play empty first) entry.left).answers) (said_now entry)) course on
+      (IsRunOf entry first (asked (played play empty first) entry.left)) course on
       (opening_moments entry a course said mounting first stood (asked (played play empty first) entry.left))
       (λ told_a t low high. inr (
       subst (λ (l : List ℕ).
@@ -164,7 +173,7 @@ module _ (entry a : Told) (course : GoesOn entry a) (said : KeepsSaid entry a)
 
   -- where the task makes no event, the disk is synced at most
   pub whole_still : (17 < length (disk_now entry).now → Throughout entry a (λ disk said. IsAtMostSynced (disk_now entry) disk))
-      → (status : Status) → ((made : List Event) → IsStoreOf (disk_now a) now made → IsDone (asked now a.left) made a b status)
+      → (status : Status) → IsDoneAs status
       → events (asked (played play empty first) entry.left).answers ≡ [] → 17 < length (disk_now entry).now
       → Throughout entry b (λ disk said. IsAtMostSynced (disk_now entry) disk)
   whole_still opening status done none long told = carry_on entry a b (λ disk said. IsAtMostSynced (disk_now entry) disk) course on (opening long)
@@ -174,14 +183,14 @@ module _ (entry a : Told) (course : GoesOn entry a) (said : KeepsSaid entry a)
 
 -- what stands in the file at the end of a run
 pub stopped : (entry b : Told) (first : List Event) (task : Task) → GoesOn entry b
-    → Throughout entry b (IsOpenedRunning (disk_now entry) StandsForEvents first (events task.answers) (events_due task.answers) (said_now entry))
+    → Throughout entry b (IsRunOf entry first task)
     → StandsForEvents (disk_now entry).now first → MayLeave (disk_now b) (disk_now b).now → IsTrue entry.tells → IsKept task first entry b
 stopped entry b first task course moments stood left told = ⊎_elim
     (λ before. among StandsForEvents first task.answers [] task.answers (disk_now b).now (length (said_now b) - length (said_now entry)) refl
     (omega (arith, ap length before.1))
     (subst (λ (l : List Event). StandsForEvents (disk_now b).now l) (sym (append-nil first)) (subst (λ d. StandsForEvents d.now first) (sym before.0) stood)))
     (λ running. running (disk_now b).now left)
-    (at_last entry b (IsOpenedRunning (disk_now entry) StandsForEvents first (events task.answers) (events_due task.answers) (said_now entry)) course
+    (at_last entry b (IsRunOf entry first task) course
     moments told)
 
 -- where nothing rose, the run comes to what its task comes to
@@ -201,13 +210,13 @@ complete task first entry b Memory e none read write disk = inr refl
 
 -- a store that was not opened
 module _ (entry a : Told) (fault : SessionFault) (never : fault ≡ session.SayFault → ⊥)
-    (damage : AtDamage fault (λ at. IsTrue entry.tells → IsDamaged (disk_now entry).now at × StandsForNoEvents (disk_now entry).now)) where
+    (damage : AtDamage fault (IsDamagedFrom entry)) where
   pub unopened_ends : (task : Task) (first : List Event) → IsTrue entry.tells → StandsForEvents (disk_now entry).now first → IsUnopened first entry a
       → Ends task first entry a (session_status fault)
   unopened_ends task first told stood ended = go fault never damage
     where
       go : (f : SessionFault) → (f ≡ session.SayFault → ⊥)
-          → AtDamage f (λ at. IsTrue entry.tells → IsDamaged (disk_now entry).now at × StandsForNoEvents (disk_now entry).now)
+          → AtDamage f (IsDamagedFrom entry)
           → Ends task first entry a (session_status f)
       go session.DiskFault n d = inl ended
       go session.SayFault n d = absurd (n refl)
@@ -218,7 +227,7 @@ module _ (entry a : Told) (fault : SessionFault) (never : fault ≡ session.SayF
       → KeepsSaid entry a → KeepsInput entry a → (at : ℕ) → session_status fault ≡ Damaged at → IsFoundDamaged entry a at
   unopened_damaged long said input at is = go fault damage is
     where
-      go : (f : SessionFault) → AtDamage f (λ at. IsTrue entry.tells → IsDamaged (disk_now entry).now at × StandsForNoEvents (disk_now entry).now)
+      go : (f : SessionFault) → AtDamage f (IsDamagedFrom entry)
           → session_status f ≡ Damaged at → IsFoundDamaged entry a at
       go session.DiskFault d e = absurd cc
       go session.SayFault d e = absurd cc

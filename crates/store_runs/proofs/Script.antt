@@ -29,6 +29,11 @@ use Rattle.store_session.specs.Endings.{IsServed, IsUnsaid, IsUnanswered, IsHalt
 use Rattle.store_session.specs.Tasks.{Task, serving_by, input_status, end_of, telling_one, gated, gated_by}
 use Rattle.store_runs.proofs.Halting.{halted, kept_too, unanswered}
 
+-- the store has the answer's event after those that it had
+abbrev pub AddsEvent : Told → Told → State → State → Answer Event → Type 0
+AddsEvent b d state now answer =
+    IsTrue b.tells → (made : List Event) → IsStoreOf (disk_now b) state made → IsStoreOf (disk_now d) now (made ++ listed answer.event)
+
 -- a run between two commands, where the store rests
 pub record Between (rule : State → Item → Answer Event) (entry now : Told) (made : List Event) (task : Task) (left : Script) (state : State)
     (refused : Bool) : Type 0 where
@@ -95,6 +100,9 @@ module _ (rule : State → Item → Answer Event) (entry b : Told) (made : List 
 module _ (rule : State → Item → Answer Event) (entry a b : Told) (made : List Event) (task : Task) (left : Script) (state : State) (refused : Bool)
     (between : Between rule entry a made task left state refused)
     (course : GoesOn entry a) (on : GoesOn a b) (disk : KeepsDisk a b) (said : KeepsSaid a b) (told : IsTrue entry.tells) where
+  still_left : Between rule entry b made task left state refused
+  still_left = looked rule entry a b made task left state refused between course on disk said told left refl
+
   at_fault : (fault : LineFault) → left ≡ ends_by (Some fault) → IsServed task made entry b × (task.end ≡ input_status fault)
   at_fault fault is =
       let there = looked rule entry a b made task left state refused between course on disk said told (ends_by (Some fault)) is in
@@ -102,7 +110,7 @@ module _ (rule : State → Item → Answer Event) (entry a b : Told) (made : Lis
 
   halted_here : IsHalted task made entry b
   halted_here = halted entry b made task (answers rule play state left.items) state
-      (looked rule entry a b made task left state refused between course on disk said told left refl).going
+      still_left.going
 
   fault_ends : (fault : LineFault) (rest : Script) → IsTrue task.reads → GotItem (Err fault) left rest → Ends task made entry b (input_status fault)
   fault_ends (faults.LineTooLong at) rest reads is = at_fault (faults.LineTooLong at) is
@@ -119,13 +127,13 @@ module _ (rule : State → Item → Answer Event) (entry a b : Told) (made : Lis
       (served rule entry b made task state refused None there, end_is rule entry b made task state refused None there)
 
   looked_part : Throughout entry b (λ disk said. AddsPart (said_now entry) (replies task.answers) said)
-  looked_part = (looked rule entry a b made task left state refused between course on disk said told left refl).going.part
+  looked_part = still_left.going.part
 
   looked_moments : Throughout entry b (IsRunning StandsForEvents made (events task.answers) (events_due task.answers) (said_now entry))
-  looked_moments = (looked rule entry a b made task left state refused between course on disk said told left refl).going.moments
+  looked_moments = still_left.going.moments
 
   looked_still : events task.answers ≡ [] → KeepsDisk entry b
-  looked_still = (looked rule entry a b made task left state refused between course on disk said told left refl).going.still
+  looked_still = still_left.going.still
 
 -- an item was answered
 module _ (rule : State → Item → Answer Event) (entry b d : Told) (made : List Event) (task : Task) (next : Script) (item : Item) (state : State)
@@ -366,8 +374,7 @@ module _ (rule : State → Item → Answer Event) (entry a b : Told) (s0 : State
         (item_between told made holds) course_b step_on part moments still none told
 
     step_fault_ends : (fault : SessionFault) (now : State)
-        → IfMade (Err fault) (IsTrue b.tells → (made : List Event) → IsStoreOf (disk_now b) state made
-        → IsStoreOf (disk_now d) now (made ++ listed answer.event))
+        → IfMade (Err fault) (AddsEvent b d state now answer)
         → ((at : ℕ) → fault ≡ session.Damaged at → ⊥) → (fault ≡ session.Memory → KeepsDisk b d × KeepsSaid b d)
         → (fault ≡ session.DiskFault → KeepsSaid b d × IsSome answer.event) → (IsTrue d.tells → MayLeave (disk_now d) (disk_now d).now)
         → IsTrue entry.tells → (made : List Event) → IsStoreOf (disk_now entry) s0 made → Ends (serving_by rule s0 whole) made entry d (session_status fault)
@@ -392,8 +399,7 @@ module _ (rule : State → Item → Answer Event) (entry a b : Told) (s0 : State
     pub serving_on : (failed_b : Bool) (now : State) (broken_d refused_d : Bool) → failed_b ≡ false → broken_d ≡ false → KeepsInput b d
         → (refused || answer.refused) ≡ refused_d → now ≡ after play state answer.event
         → (IsTrue b.tells → said_now d ≡ said_now b ++ answer.reply)
-        → (IsTrue b.tells → (made : List Event) → IsStoreOf (disk_now b) state made → IsStoreOf (disk_now d) now (made ++ listed answer.event))
-        → Serving rule entry d s0 whole failed_b place_b pending_b refused_d now broken_d
+        → AddsEvent b d state now answer → Serving rule entry d s0 whole failed_b place_b pending_b refused_d now broken_d
     serving_on failed_b now broken_d refused_d fresh unbroken input refused_is now_is replied added = record {
       fresh = fresh;
       unbroken = unbroken;
@@ -410,8 +416,7 @@ module _ (rule : State → Item → Answer Event) (entry a b : Told) (s0 : State
     }
 
     pub step_fault_done : (fault : SessionFault) (now : State)
-        → IfMade (Err fault) (IsTrue b.tells → (made : List Event) → IsStoreOf (disk_now b) state made
-        → IsStoreOf (disk_now d) now (made ++ listed answer.event))
+        → IfMade (Err fault) (AddsEvent b d state now answer)
         → ((at : ℕ) → fault ≡ session.Damaged at → ⊥) → (fault ≡ session.Memory → KeepsDisk b d × KeepsSaid b d)
         → (fault ≡ session.DiskFault → KeepsSaid b d × IsSome answer.event) → (IsTrue d.tells → MayLeave (disk_now d) (disk_now d).now)
         → (made : List Event) → IsStoreOf (disk_now entry) s0 made → IsDone (serving_by rule s0 whole) made entry d (session_status fault)

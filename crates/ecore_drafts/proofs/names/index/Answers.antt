@@ -10,11 +10,11 @@ returns-then-is_some c =
     (c.if-is_some.ensures ∙ ap is_some (c.in_ok-insert.ensures.old ∙ c.loop-n.invariant.told _))
 
 pub loop-n-preserved : goal.loop-n-preserved
-loop-n-preserved c = record {
-  apart = still_apart (λ n. n.now) c.args.names.now c.loop-n.n _ c.loop-n-test.true c.loop-n.invariant.apart
-      (c.if-is_some.ensures ∙ ap is_some (c.in_ok-insert.ensures.old ∙ c.loop-n.invariant.told _));
-  told = λ q.
-      btree_map_updates_str _ c.loop-n.index c.insert.new.self _ c.in_ok-insert.ensures.updates q
-      ∙ still_told (λ n. n.now) c.args.names.now c.loop-n.n _ c.loop-n-test.true
-      (c.if-is_some.ensures ∙ ap is_some (c.in_ok-insert.ensures.old ∙ c.loop-n.invariant.told _)) _ refl _ c.loop-n.invariant.told q;
-}
+loop-n-preserved c =
+    let stood = c.if-is_some.ensures ∙ ap is_some (c.in_ok-insert.ensures.old ∙ c.loop-n.invariant.told _) in
+    record {
+      apart = still_apart (λ n. n.now) c.args.names.now c.loop-n.n _ c.loop-n-test.true c.loop-n.invariant.apart stood;
+      told = λ q.
+          btree_map_updates_str _ c.loop-n.index c.insert.new.self _ c.in_ok-insert.ensures.updates q
+          ∙ still_told (λ n. n.now) c.args.names.now c.loop-n.n _ c.loop-n-test.true stood _ refl _ c.loop-n.invariant.told q;
+    }

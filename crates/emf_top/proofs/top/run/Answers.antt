@@ -18,55 +18,50 @@ use Rattle.store_runs.proofs.Headlines.{file_still}
 use Rattle.emf_top.proofs.top.run.Goals as goal
 
 pub returns-in-Some-clause-ends : goal.returns-in-Some-clause-ends
-returns-in-Some-clause-ends g c =
-    λ told request first stood asks.
-    subst (λ (r : Request).
-    Ends (task_of r (played play empty first) (g.H.Host.told c.args.host.now).left) first (g.H.Host.told c.args.host.now)
-    (g.H.Host.told c.over_store.new.host) c.over_store.result)
-    (same_request (map string_bytes c.args.words.now) c.in-Some.request request c.in-Some.ensures.asked asks) (c.over_store.ensures.ends told first stood)
+returns-in-Some-clause-ends g c = λ told request first stood asks.
+    let old = g.H.Host.told c.args.host.now in
+    let new = g.H.Host.told c.over_store.new.host in
+    let same = same_request (map string_bytes c.args.words.now) c.in-Some.request request c.in-Some.ensures.asked asks in
+    subst (λ (r : Request). Ends (task_of r (played play empty first) old.left) first old new c.over_store.result) same
+    (c.over_store.ensures.ends told first stood)
 
 pub returns-in-Some-clause-part : goal.returns-in-Some-clause-part
-returns-in-Some-clause-part g c =
-    λ request first stood asks.
-    subst (λ (r : Request).
-    Throughout (g.H.Host.told c.args.host.now) (g.H.Host.told c.over_store.new.host)
-    (λ disk said. AddsPart (said_now (g.H.Host.told c.args.host.now))
-    (replies (task_of r (played play empty first) (g.H.Host.told c.args.host.now).left).answers) said))
-    (same_request (map string_bytes c.args.words.now) c.in-Some.request request c.in-Some.ensures.asked asks) (c.over_store.ensures.part first stood)
+returns-in-Some-clause-part g c = λ request first stood asks.
+    let old = g.H.Host.told c.args.host.now in
+    let new = g.H.Host.told c.over_store.new.host in
+    let same = same_request (map string_bytes c.args.words.now) c.in-Some.request request c.in-Some.ensures.asked asks in
+    subst (λ (r : Request). Throughout old new (λ disk said. AddsPart (said_now old) (replies (task_of r (played play empty first) old.left).answers)
+    said)) same (c.over_store.ensures.part first stood)
 
 pub returns-in-Some-clause-moments : goal.returns-in-Some-clause-moments
-returns-in-Some-clause-moments g c =
-    λ request first stood asks.
-    subst (λ (r : Request).
-    Throughout (g.H.Host.told c.args.host.now) (g.H.Host.told c.over_store.new.host)
-    (IsOpenedRunning (disk_now (g.H.Host.told c.args.host.now)) StandsForEvents first
-    (events (task_of r (played play empty first) (g.H.Host.told c.args.host.now).left).answers)
-    (events_due (task_of r (played play empty first) (g.H.Host.told c.args.host.now).left).answers) (said_now (g.H.Host.told c.args.host.now))))
-    (same_request (map string_bytes c.args.words.now) c.in-Some.request request c.in-Some.ensures.asked asks) (c.over_store.ensures.moments first stood)
+returns-in-Some-clause-moments g c = λ request first stood asks.
+    let old = g.H.Host.told c.args.host.now in
+    let new = g.H.Host.told c.over_store.new.host in
+    let same = same_request (map string_bytes c.args.words.now) c.in-Some.request request c.in-Some.ensures.asked asks in
+    subst (λ (r : Request). Throughout old new (IsOpenedRunning (disk_now old) StandsForEvents first
+    (events (task_of r (played play empty first) old.left).answers) (events_due (task_of r (played play empty first) old.left).answers)
+    (said_now old))) same (c.over_store.ensures.moments first stood)
 
 pub returns-in-Some-clause-stopped : goal.returns-in-Some-clause-stopped
-returns-in-Some-clause-stopped g c =
-    λ told request first stood asks.
-    subst (λ (r : Request).
-    IsKept (task_of r (played play empty first) (g.H.Host.told c.args.host.now).left) first (g.H.Host.told c.args.host.now)
-    (g.H.Host.told c.over_store.new.host))
-    (same_request (map string_bytes c.args.words.now) c.in-Some.request request c.in-Some.ensures.asked asks) (c.over_store.ensures.stopped told first stood)
+returns-in-Some-clause-stopped g c = λ told request first stood asks.
+    let old = g.H.Host.told c.args.host.now in
+    let new = g.H.Host.told c.over_store.new.host in
+    let same = same_request (map string_bytes c.args.words.now) c.in-Some.request request c.in-Some.ensures.asked asks in
+    subst (λ (r : Request). IsKept (task_of r (played play empty first) old.left) first old new) same (c.over_store.ensures.stopped told first stood)
 
 pub returns-in-Some-clause-complete : goal.returns-in-Some-clause-complete
-returns-in-Some-clause-complete g c =
-    λ told request first stood asks none.
-    subst (λ (r : Request). (c.over_store.result ≡ (task_of r (played play empty first) (g.H.Host.told c.args.host.now).left).end)
-    ⊎ (c.over_store.result ≡ Memory))
-    (same_request (map string_bytes c.args.words.now) c.in-Some.request request c.in-Some.ensures.asked asks)
+returns-in-Some-clause-complete g c = λ told request first stood asks none.
+    let old = g.H.Host.told c.args.host.now in
+    let same = same_request (map string_bytes c.args.words.now) c.in-Some.request request c.in-Some.ensures.asked asks in
+    subst (λ (r : Request). (c.over_store.result ≡ (task_of r (played play empty first) old.left).end) ⊎ (c.over_store.result ≡ Memory)) same
     (c.over_store.ensures.complete told first stood none)
 
 pub returns-in-Some-clause-unread : goal.returns-in-Some-clause-unread
-returns-in-Some-clause-unread g c =
-    λ request first stood asks.
-    subst (λ (r : Request).
-    KeepsUnread (task_of r (played play empty first) (g.H.Host.told c.args.host.now).left) (g.H.Host.told c.args.host.now)
-    (g.H.Host.told c.over_store.new.host)) (same_request (map string_bytes c.args.words.now) c.in-Some.request request c.in-Some.ensures.asked asks)
-    (c.over_store.ensures.unread first)
+returns-in-Some-clause-unread g c = λ request first stood asks.
+    let old = g.H.Host.told c.args.host.now in
+    let new = g.H.Host.told c.over_store.new.host in
+    let same = same_request (map string_bytes c.args.words.now) c.in-Some.request request c.in-Some.ensures.asked asks in
+    subst (λ (r : Request). KeepsUnread (task_of r (played play empty first) old.left) old new) same (c.over_store.ensures.unread first)
 
 pub returns-in-Some-clause-words : goal.returns-in-Some-clause-words
 returns-in-Some-clause-words g c = (λ is. absurd (c.over_store.ensures.words is), λ bad. absurd (bad c.in-Some.request c.in-Some.ensures.asked))
@@ -108,13 +103,12 @@ pub returns-in-None-clause-damages : goal.returns-in-None-clause-damages
 returns-in-None-clause-damages g c = λ told none. inl c.in-None.ensures.bad
 
 pub returns-in-Some-clause-still : goal.returns-in-Some-clause-still
-returns-in-Some-clause-still g c =
-    λ request first stood asks.
-    subst (λ (r : Request). events (task_of r (played play empty first) (g.H.Host.told c.args.host.now).left).answers ≡ []
-    → 17 < length (disk_now (g.H.Host.told c.args.host.now)).now
-    → Throughout (g.H.Host.told c.args.host.now) (g.H.Host.told c.over_store.new.host)
-    (λ disk said. IsAtMostSynced (disk_now (g.H.Host.told c.args.host.now)) disk))
-    (same_request (map string_bytes c.args.words.now) c.in-Some.request request c.in-Some.ensures.asked asks) (c.over_store.ensures.still first stood)
+returns-in-Some-clause-still g c = λ request first stood asks.
+    let old = g.H.Host.told c.args.host.now in
+    let new = g.H.Host.told c.over_store.new.host in
+    let same = same_request (map string_bytes c.args.words.now) c.in-Some.request request c.in-Some.ensures.asked asks in
+    subst (λ (r : Request). events (task_of r (played play empty first) old.left).answers ≡ [] → 17 < length (disk_now old).now → Throughout old new
+    (λ disk said. IsAtMostSynced (disk_now old) disk)) same (c.over_store.ensures.still first stood)
 
 pub returns-in-None-clause-still : goal.returns-in-None-clause-still
 returns-in-None-clause-still g c = λ request first stood asks. absurd (c.in-None.ensures.bad request asks)

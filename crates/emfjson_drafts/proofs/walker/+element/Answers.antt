@@ -16,11 +16,11 @@ use Rattle.finite_maps.specs.Maps.{is_within}
 use Rattle.ecore_meta.specs.Typing.{is_one}
 use Rattle.model_documents.specs.Parts.{ids_of, no_part}
 use Rattle.model_documents.specs.Reads.{Read}
-use Rattle.model_documents.specs.Walk.{element_rows, feature_part, items_rows, members_rows, held_rows, key_part, key_named}
+use Rattle.model_documents.specs.Walk.{element_rows, feature_part, items_rows, members_rows, key_part, key_named}
 use Rattle.emfjson_drafts.proofs.Lists.{next_of, none_left_of}
 use Rattle.emfjson_drafts.proofs.Walking.{class_fault, id_fault, object_is, other_rows, null_rows, boolean_rows, number_rows, string_rows, array_rows}
 use Rattle.emfjson_drafts.proofs.Walking.{walks_is, held_null, held_array, held_object, held_boolean, held_number, held_string, count_items}
-use Rattle.emfjson_drafts.proofs.Walking.{items_step, items_fault, items_end, members_step, members_fault, members_end}
+use Rattle.emfjson_drafts.proofs.Walking.{rows_held, items_step, items_fault, items_end, members_step, members_fault, members_end}
 use Rattle.emfjson_drafts.proofs.walker.+element.Goals as goal
 
 pub element-returns-in-Err : goal.element-returns-in-Err
@@ -189,7 +189,7 @@ members_of-returns-in-Err t c =
     (members_view c.args.members.now.entries) (string_bytes c.in-Some.key.now) d (members_view c.next.new.self)
     (so.0, so.1, so.2, so.3, so.4 ∙ ap (λ es. members_rows meta c.args.class c.args.own (ids_of first) so.0 (members_view es)) c.in-Some.ensures.steps)
     (subst (λ (k : Key). IsFault c.in-Err.fault
-    (key_part meta k d (λ f target. held_rows meta (ids_of now) (record { row = c.args.own; feature = f }) target d)))
+    (key_part meta k d (rows_held meta (ids_of now) c.args.own d)))
     (c.key_named-key.ensures ∙ ap (key_named meta c.args.class) c.as_str.ensures.value) c.in-Err.ensures)
 
 pub members_of-loop-key-preserved : goal.members_of-loop-key-preserved
@@ -205,7 +205,7 @@ members_of-loop-key-preserved t c =
     (so.0, so.1, so.2, so.3, so.4 ∙ ap (λ es. members_rows meta c.args.class c.args.own (ids_of first) so.0 (members_view es)) c.in-Some.ensures.steps)
     (subst (λ (k : Key). AppendsPart c.loop-key.held.attrs c.part_of.new.held.attrs c.loop-key.held.links c.part_of.new.held.links now
     c.part_of.new.rows (Ok c.in-Ok.field-0)
-    (key_part meta k d (λ f target. held_rows meta (ids_of now) (record { row = c.args.own; feature = f }) target d)))
+    (key_part meta k d (rows_held meta (ids_of now) c.args.own d)))
     (c.key_named-key.ensures ∙ ap (key_named meta c.args.class) c.as_str.ensures.value) c.in-Ok.ensures)
 
 pub feature_part-returns-in-Container : goal.feature_part-returns-in-Container
@@ -214,7 +214,7 @@ feature_part-returns-in-Container t c =
     let d = view c.args.value.now in (
       no_part,
       ap (λ (k : Kind). feature_part c.args.meta.now c.args.f k d
-          (λ f target. held_rows c.args.meta.now ids (record { row = c.args.own; feature = f }) target d)) c.in-Container.is,
+          (rows_held c.args.meta.now ids c.args.own d)) c.in-Container.is,
       sym (append-nil _),
       sym (append-nil _),
       sym (append-nil _),
@@ -226,7 +226,7 @@ feature_part-returns-in-Skip t c =
     let d = view c.args.value.now in (
       no_part,
       ap (λ (k : Kind). feature_part c.args.meta.now c.args.f k d
-          (λ f target. held_rows c.args.meta.now ids (record { row = c.args.own; feature = f }) target d)) c.in-Skip.is,
+          (rows_held c.args.meta.now ids c.args.own d)) c.in-Skip.is,
       sym (append-nil _),
       sym (append-nil _),
       sym (append-nil _),
@@ -237,7 +237,7 @@ part_of-returns-in-Own t c =
     let ids = ids_of c.args.rows.now in
     let d = view c.args.value.now in (
       no_part,
-      ap (λ (k : Key). key_part c.args.meta.now k d (λ f target. held_rows c.args.meta.now ids (record { row = c.args.own; feature = f }) target d))
+      ap (λ (k : Key). key_part c.args.meta.now k d (rows_held c.args.meta.now ids c.args.own d))
           c.in-Own.is,
       sym (append-nil _),
       sym (append-nil _),
@@ -249,7 +249,7 @@ part_of-returns-in-None t c =
     let meta = c.args.meta.now in
     let ids = ids_of c.args.rows.now in
     let d = view c.args.value.now in
-    let held : ℕ → ℕ → Read (List Draft) = λ f target. held_rows meta ids (record { row = c.args.own; feature = f }) target d in (
+    let held : ℕ → ℕ → Read (List Draft) = rows_held meta ids c.args.own d in (
       no_part,
       ap (λ (k : Key). key_part meta k d held) c.in-Of.is
           ∙ ap (λ (o : Option Feature). feature_part meta c.in-Of.f (option_map_or (λ x. x.kind) o Skip) d held) (sym c.in-None.ensures),

@@ -42,7 +42,8 @@ returns-then-is_err g c =
     let a = g.H.Host.told c.events.host in
     let b = g.H.Host.told c.next_event.new.host in
     let plays = rw c.in-Ok-Some.field-0-is at c.in-Ok-Some.ensures.played in
-    let printed = c.in-Ok-event_said.ensures (is_played a b c.events.opening c.next_event.new.self _ c.repo.result.now plays c.repo.ensures) in
+    let event = is_played a b c.events.opening c.next_event.new.self _ c.repo.result.now plays c.repo.ensures in
+    let printed = c.in-Ok-event_said.ensures event in
     unsaid (g.H.Host.told c.args.host.now) a b c.events.opening c.events.invariant c.next_event.ensures.course c.next_event.ensures.disk
     c.next_event.ensures.said c.next_event.ensures.input c.next_event.new.self _ plays (g.H.Host.told c.say.new.self) c.deref.result.now
     (c.deref.ensures.value ∙ printed.0) c.say.ensures.course c.say.ensures.disk c.say.ensures.input c.say.ensures.part
@@ -53,7 +54,8 @@ returns-then-not-said g c =
     let a = g.H.Host.told c.events.host in
     let b = g.H.Host.told c.next_event.new.host in
     let plays = rw c.in-Ok-Some.field-0-is at c.in-Ok-Some.ensures.played in
-    let printed = c.in-Ok-event_said.ensures (is_played a b c.events.opening c.next_event.new.self _ c.repo.result.now plays c.repo.ensures) in
+    let event = is_played a b c.events.opening c.next_event.new.self _ c.repo.result.now plays c.repo.ensures in
+    let printed = c.in-Ok-event_said.ensures event in
     refused (g.H.Host.told c.args.host.now) a b c.events.opening c.events.invariant c.next_event.ensures.course c.next_event.ensures.disk
     c.next_event.ensures.said c.next_event.ensures.input c.next_event.new.self _ plays (g.H.Host.told c.say.new.self) c.deref.result.now
     (c.deref.ensures.value ∙ printed.0) c.say.ensures.course c.say.ensures.disk c.say.ensures.input c.say.ensures.part
@@ -64,7 +66,8 @@ events-preserved g c =
     let a = g.H.Host.told c.events.host in
     let b = g.H.Host.told c.next_event.new.host in
     let plays = rw c.in-Ok-Some.field-0-is at c.in-Ok-Some.ensures.played in
-    let printed = c.in-Ok-event_said.ensures (is_played a b c.events.opening c.next_event.new.self _ c.repo.result.now plays c.repo.ensures) in
+    let event = is_played a b c.events.opening c.next_event.new.self _ c.repo.result.now plays c.repo.ensures in
+    let printed = c.in-Ok-event_said.ensures event in
     goes_on (g.H.Host.told c.args.host.now) a b c.events.opening c.events.invariant c.next_event.ensures.course c.next_event.ensures.disk
     c.next_event.ensures.said c.next_event.ensures.input c.next_event.new.self _ plays (g.H.Host.told c.say.new.self) c.deref.result.now
     (c.deref.ensures.value ∙ printed.0) c.say.ensures.course c.say.ensures.disk c.say.ensures.input c.say.ensures.part

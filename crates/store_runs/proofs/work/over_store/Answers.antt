@@ -12,27 +12,27 @@ use Rattle.store_runs.proofs.work.over_store.Goals as goal
 
 -- ---- the store was not opened
 pub returns-in-Err-clause-ends : goal.returns-in-Err-clause-ends
-returns-in-Err-clause-ends g c =
-    λ told first stood. rw c.status_of.ensures
-    (unopened_ends (g.H.Host.told c.args.host.now) (g.H.Host.told c.mount.new.host) c.in-Err.fault c.in-Err.ensures.never c.in-Err.ensures.damaged
-    (g.W.Work.task c.args.work.now (played play empty first) (g.H.Host.told c.args.host.now).left) first told stood
-    (unopened (g.H.Host.told c.args.host.now)
-    (g.H.Host.told c.mount.new.host) c.mount.ensures.course c.mount.ensures.said c.mount.ensures.moments first stood
-    (g.W.Work.task c.args.work.now (played play empty first) (g.H.Host.told c.args.host.now).left) c.mount.ensures.input
-    (g.met.H.Host.now_is_left c.mount.new.host (g.H.Host.told c.mount.new.host).clock
-    (told_next (g.H.Host.told c.args.host.now) (g.H.Host.told c.mount.new.host) c.mount.ensures.course told) (omega arith)) told))
+returns-in-Err-clause-ends g c = λ told first stood.
+    let old = g.H.Host.told c.args.host.now in
+    let opened = g.H.Host.told c.mount.new.host in
+    let task = g.W.Work.task c.args.work.now (played play empty first) old.left in
+    rw c.status_of.ensures (unopened_ends old opened c.in-Err.fault c.in-Err.ensures.never c.in-Err.ensures.damaged task first told stood
+    (unopened old opened c.mount.ensures.course c.mount.ensures.said c.mount.ensures.moments first stood task c.mount.ensures.input
+    (g.met.H.Host.now_is_left c.mount.new.host opened.clock (told_next old opened c.mount.ensures.course told) (omega arith)) told))
 
 pub returns-in-Err-clause-part : goal.returns-in-Err-clause-part
-returns-in-Err-clause-part g c =
-    λ first stood. opening_part (g.H.Host.told c.args.host.now)
-    (g.H.Host.told c.mount.new.host) c.mount.ensures.course c.mount.ensures.said c.mount.ensures.moments first stood
-    (g.W.Work.task c.args.work.now (played play empty first) (g.H.Host.told c.args.host.now).left)
+returns-in-Err-clause-part g c = λ first stood.
+    let old = g.H.Host.told c.args.host.now in
+    let opened = g.H.Host.told c.mount.new.host in
+    let task = g.W.Work.task c.args.work.now (played play empty first) old.left in
+    opening_part old opened c.mount.ensures.course c.mount.ensures.said c.mount.ensures.moments first stood task
 
 pub returns-in-Err-clause-moments : goal.returns-in-Err-clause-moments
-returns-in-Err-clause-moments g c =
-    λ first stood. opening_moments (g.H.Host.told c.args.host.now)
-    (g.H.Host.told c.mount.new.host) c.mount.ensures.course c.mount.ensures.said c.mount.ensures.moments first stood
-    (g.W.Work.task c.args.work.now (played play empty first) (g.H.Host.told c.args.host.now).left)
+returns-in-Err-clause-moments g c = λ first stood.
+    let old = g.H.Host.told c.args.host.now in
+    let opened = g.H.Host.told c.mount.new.host in
+    let task = g.W.Work.task c.args.work.now (played play empty first) old.left in
+    opening_moments old opened c.mount.ensures.course c.mount.ensures.said c.mount.ensures.moments first stood task
 
 pub returns-in-Err-clause-unread : goal.returns-in-Err-clause-unread
 returns-in-Err-clause-unread g c = λ first unread. c.mount.ensures.input
@@ -69,19 +69,20 @@ pub returns-in-Err-clause-still : goal.returns-in-Err-clause-still
 returns-in-Err-clause-still g c = λ first stood none long. c.mount.ensures.long long
 
 pub returns-in-Err-clause-stopped : goal.returns-in-Err-clause-stopped
-returns-in-Err-clause-stopped g c =
-    λ told first stood. stopped (g.H.Host.told c.args.host.now) (g.H.Host.told c.mount.new.host) first
-    (g.W.Work.task c.args.work.now (played play empty first) (g.H.Host.told c.args.host.now).left) c.mount.ensures.course
-    (returns-in-Err-clause-moments g c first stood) stood
-    (g.met.H.Host.now_is_left c.mount.new.host (g.H.Host.told c.mount.new.host).clock
-    (told_next (g.H.Host.told c.args.host.now) (g.H.Host.told c.mount.new.host) c.mount.ensures.course told) (omega arith)) told
+returns-in-Err-clause-stopped g c = λ told first stood.
+    let old = g.H.Host.told c.args.host.now in
+    let opened = g.H.Host.told c.mount.new.host in
+    let task = g.W.Work.task c.args.work.now (played play empty first) old.left in
+    stopped old opened first task c.mount.ensures.course (returns-in-Err-clause-moments g c first stood) stood
+    (g.met.H.Host.now_is_left c.mount.new.host opened.clock (told_next old opened c.mount.ensures.course told) (omega arith)) told
 
 pub returns-in-Err-clause-complete : goal.returns-in-Err-clause-complete
-returns-in-Err-clause-complete g c =
-    λ told first stood none.
-    complete (g.W.Work.task c.args.work.now (played play empty first) (g.H.Host.told c.args.host.now).left) first (g.H.Host.told c.args.host.now)
-    (g.H.Host.told c.mount.new.host) c.status_of.result (returns-in-Err-clause-ends g c told first stood) none
-    (returns-in-Err-clause-read g c) (returns-in-Err-clause-write g c) (returns-in-Err-clause-disk g c)
+returns-in-Err-clause-complete g c = λ told first stood none.
+    let old = g.H.Host.told c.args.host.now in
+    let opened = g.H.Host.told c.mount.new.host in
+    let task = g.W.Work.task c.args.work.now (played play empty first) old.left in
+    complete task first old opened c.status_of.result (returns-in-Err-clause-ends g c told first stood) none (returns-in-Err-clause-read g c)
+    (returns-in-Err-clause-write g c) (returns-in-Err-clause-disk g c)
 
 -- ---- the store was opened
 pub returns-clause-ends : goal.returns-clause-ends
@@ -150,17 +151,18 @@ returns-clause-disk g c =
 
 pub returns-clause-stopped : goal.returns-clause-stopped
 returns-clause-stopped g c = λ told first stood.
-    let course = course_on (g.H.Host.told c.args.host.now) (g.H.Host.told c.mount.new.host)
-    (g.H.Host.told c.fulfil.new.host) c.mount.ensures.course c.fulfil.ensures.course in
-    stopped (g.H.Host.told c.args.host.now) (g.H.Host.told c.fulfil.new.host) first
-    (g.W.Work.task c.args.work.now (played play empty first) (g.H.Host.told c.args.host.now).left) course
-    (returns-clause-moments g c first stood) stood
-    (g.met.H.Host.now_is_left c.fulfil.new.host (g.H.Host.told c.fulfil.new.host).clock
-    (told_next (g.H.Host.told c.args.host.now) (g.H.Host.told c.fulfil.new.host) course told) (omega arith)) told
+    let old = g.H.Host.told c.args.host.now in
+    let opened = g.H.Host.told c.mount.new.host in
+    let done = g.H.Host.told c.fulfil.new.host in
+    let task = g.W.Work.task c.args.work.now (played play empty first) old.left in
+    let course = course_on old opened done c.mount.ensures.course c.fulfil.ensures.course in
+    stopped old done first task course (returns-clause-moments g c first stood) stood
+    (g.met.H.Host.now_is_left c.fulfil.new.host done.clock (told_next old done course told) (omega arith)) told
 
 pub returns-clause-complete : goal.returns-clause-complete
-returns-clause-complete g c =
-    λ told first stood none.
-    complete (g.W.Work.task c.args.work.now (played play empty first) (g.H.Host.told c.args.host.now).left) first (g.H.Host.told c.args.host.now)
-    (g.H.Host.told c.fulfil.new.host) c.fulfil.result (returns-clause-ends g c told first stood) none (returns-clause-read g c)
-    (returns-clause-write g c) (returns-clause-disk g c)
+returns-clause-complete g c = λ told first stood none.
+    let old = g.H.Host.told c.args.host.now in
+    let done = g.H.Host.told c.fulfil.new.host in
+    let task = g.W.Work.task c.args.work.now (played play empty first) old.left in
+    complete task first old done c.fulfil.result (returns-clause-ends g c told first stood) none (returns-clause-read g c) (returns-clause-write g c)
+    (returns-clause-disk g c)

@@ -1,10 +1,11 @@
 -- An event's record written, or its frames given back: what the disk holds at each moment.
-use Rattle.std.proofs.Common.{◌≡◌, ℕ, ◌+◌, length, sym, ◌∙◌, ap, refl, subst, arith}
+use Rattle.std.proofs.Common.{◌≡◌, ℕ, ◌+◌, List, length, sym, ◌∙◌, ap, refl, subst, arith}
 use Rattle.std.specs.Prelude.{map}
-use Rattle.host_port.specs.Host.{disk_now}
+use Rattle.host_port.specs.Host.{Disk, disk_now}
 use Rattle.host_port.proofs.Course.{still_disk}
 use Rattle.commit_journal.specs.Journal.{JournalState, IsAtRest, RecordFits}
 use Rattle.op_form.specs.Events.{event_encoding}
+use Rattle.op_form.specs.declared.event.Event.{Event}
 use Rattle.plain_repository.specs.Events.{play}
 use Rattle.store_session.proofs.Entering.{none_added, none_entering, event_added, event_entering, none_ready, some_ready}
 use Rattle.store_session.proofs.Holding.{both_none, both_some, given_all, given_same}
@@ -13,6 +14,11 @@ use Rattle.store_session.proofs.plan.enter.Goals as goal
 
 abbrev end_of : JournalState → ℕ
 end_of j = j.end
+
+-- a store that rests at its own end rests at the journal's
+rests_at : (disk : Disk) (made : List Event) {own place : ℕ} → own ≡ place → IsAtRest disk (map event_encoding made) own
+    → IsAtRest disk (map event_encoding made) place
+rests_at disk made is rests = subst (λ (n : ℕ). IsAtRest disk (map event_encoding made) n) is rests
 
 pub append-requires-clause-ready : goal.append-requires-clause-ready
 append-requires-clause-ready g c =
@@ -49,7 +55,7 @@ returns-in-Ok-clause-added g c = λ told state event at' is made holds.
     (disk_now (g.H.Host.told c.append.new.host)) (play state of.made) c.append.new.self.end (event_encoding of.made) refl refl
     (play_end state of.made ∙ same ∙ sym (ap end_of (c.in-Ok.ensures.ok (event_encoding of.made) of.holds)))
     (c.in-Ok.ensures.added told (event_encoding of.made) of.holds (map event_encoding made)
-    (subst (λ (n : ℕ). IsAtRest (disk_now (g.H.Host.told c.args.host.now)) (map event_encoding made) n) at' holds.rests.journal)))
+    (rests_at (disk_now (g.H.Host.told c.args.host.now)) made at' holds.rests.journal)))
 
 pub returns-in-Ok-clause-entering : goal.returns-in-Ok-clause-entering
 returns-in-Ok-clause-entering g c = λ state event at' is made holds.
@@ -57,7 +63,7 @@ returns-in-Ok-clause-entering g c = λ state event at' is made holds.
     rw of.event_is (event_entering (g.H.Host.told c.args.host.now) (g.H.Host.told c.append.new.host) state made of.made of.playable holds
     (event_encoding of.made) refl
     (c.append.ensures.any_moment (event_encoding of.made) of.holds (map event_encoding made)
-    (subst (λ (n : ℕ). IsAtRest (disk_now (g.H.Host.told c.args.host.now)) (map event_encoding made) n) at' holds.rests.journal)))
+    (rests_at (disk_now (g.H.Host.told c.args.host.now)) made at' holds.rests.journal)))
 
 pub returns-in-Err-clause-entering : goal.returns-in-Err-clause-entering
 returns-in-Err-clause-entering g c = λ state event at' is made holds.
@@ -65,7 +71,7 @@ returns-in-Err-clause-entering g c = λ state event at' is made holds.
     rw of.event_is (event_entering (g.H.Host.told c.args.host.now) (g.H.Host.told c.append.new.host) state made of.made of.playable holds
     (event_encoding of.made) refl
     (c.append.ensures.any_moment (event_encoding of.made) of.holds (map event_encoding made)
-    (subst (λ (n : ℕ). IsAtRest (disk_now (g.H.Host.told c.args.host.now)) (map event_encoding made) n) at' holds.rests.journal)))
+    (rests_at (disk_now (g.H.Host.told c.args.host.now)) made at' holds.rests.journal)))
 
 pub returns-in_default-clause-still : goal.returns-in_default-clause-still
 returns-in_default-clause-still g c = λ none. still_disk (g.H.Host.told c.args.host.now)
@@ -81,24 +87,24 @@ returns-in_default-clause-all g c = both_none c.args.pool.now c.args._cache.now 
 
 pub returns-in-Ok-clause-all : goal.returns-in-Ok-clause-all
 returns-in-Ok-clause-all g c =
-    given_all c.args.pool.now c.append.new.pool c.args._cache.now c.in-Some.prepared
-    (both_some c.args.pool.now c.args._cache.now c.args.ready c.in-Some.prepared c.in-Some.is c.requires.held) c.append.ensures.free
-    c.append.ensures.others c.append.ensures.out
+    let both = both_some c.args.pool.now c.args._cache.now c.args.ready c.in-Some.prepared c.in-Some.is c.requires.held in
+    given_all c.args.pool.now c.append.new.pool c.args._cache.now c.in-Some.prepared both c.append.ensures.free c.append.ensures.others
+    c.append.ensures.out
 
 pub returns-in-Err-clause-all : goal.returns-in-Err-clause-all
 returns-in-Err-clause-all g c =
-    given_all c.args.pool.now c.append.new.pool c.args._cache.now c.in-Some.prepared
-    (both_some c.args.pool.now c.args._cache.now c.args.ready c.in-Some.prepared c.in-Some.is c.requires.held) c.append.ensures.free
-    c.append.ensures.others c.append.ensures.out
+    let both = both_some c.args.pool.now c.args._cache.now c.args.ready c.in-Some.prepared c.in-Some.is c.requires.held in
+    given_all c.args.pool.now c.append.new.pool c.args._cache.now c.in-Some.prepared both c.append.ensures.free c.append.ensures.others
+    c.append.ensures.out
 
 pub returns-in-Ok-clause-stands : goal.returns-in-Ok-clause-stands
 returns-in-Ok-clause-stands g c =
-    given_same c.args.pool.now c.append.new.pool c.args._cache.now c.in-Some.prepared
-    (both_some c.args.pool.now c.args._cache.now c.args.ready c.in-Some.prepared c.in-Some.is c.requires.held) c.append.ensures.free
-    c.append.ensures.others c.append.ensures.out
+    let both = both_some c.args.pool.now c.args._cache.now c.args.ready c.in-Some.prepared c.in-Some.is c.requires.held in
+    given_same c.args.pool.now c.append.new.pool c.args._cache.now c.in-Some.prepared both c.append.ensures.free c.append.ensures.others
+    c.append.ensures.out
 
 pub returns-in-Err-clause-stands : goal.returns-in-Err-clause-stands
 returns-in-Err-clause-stands g c =
-    given_same c.args.pool.now c.append.new.pool c.args._cache.now c.in-Some.prepared
-    (both_some c.args.pool.now c.args._cache.now c.args.ready c.in-Some.prepared c.in-Some.is c.requires.held) c.append.ensures.free
-    c.append.ensures.others c.append.ensures.out
+    let both = both_some c.args.pool.now c.args._cache.now c.args.ready c.in-Some.prepared c.in-Some.is c.requires.held in
+    given_same c.args.pool.now c.append.new.pool c.args._cache.now c.in-Some.prepared both c.append.ensures.free c.append.ensures.others
+    c.append.ensures.out

@@ -17,15 +17,22 @@ use Rattle.store_replay.proofs.Endings.{ends_printed, no_read, no_words, when_di
 use Rattle.tools_top.specs.Tasks.{task_of}
 use Rattle.tools_top.proofs.AtMostOne.{for_each, no_tool, none_asked}
 use Rattle.tools_top.proofs.Starved.{at_most_synced, starved, starved_part, starved_moments, starved_kept, starved_replay}
+use Rattle.tool_requests.specs.Words.{AskFor}
+use Rattle.tool_requests.specs.declared.tool.Tool.{Tool}
+use Rattle.tools_top.proofs.top.tools.Given.{Over}
+use Rattle.tools_top.proofs.top.tools.Goals.{In-None, In-Some-Replay, In-Some-Work}
 use Rattle.tools_top.proofs.top.tools.Goals as goal
 
 -- ---- one thing is asked of the store
+asked_here : (g : Over) (c : In-Some-Work g) → AskFor (map string_bytes c.args.words.now) c.in-Some-Work.tool
+asked_here g c = rw c.in-Some-Work.field-0-is at (rw c.in-Some-Work.is at c.in-Ok.ensures)
+
 pub returns-in-Some-Work-clause-ends : goal.returns-in-Some-Work-clause-ends
 returns-in-Some-Work-clause-ends g c = λ told tool first stood asks.
     let old = g.H.Host.told c.args.host.now in
     let new = g.H.Host.told c.over_store-status.new.host in
     let words = map string_bytes c.args.words.now in
-    let asked = rw c.in-Some-Work.field-0-is at (rw c.in-Some-Work.is at c.in-Ok.ensures) in
+    let asked = asked_here g (goal.at.returns-in-Some-Work-clause-ends g c).In-Some-Work in
     for_each (λ t. Ends (task_of t (played play empty first) old.left) first old new c.over_store-status.result)
     words c.in-Some-Work.tool asked (c.over_store-status.ensures.ends told first stood) tool asks
 
@@ -34,7 +41,7 @@ returns-in-Some-Work-clause-part g c = λ tool first stood asks.
     let old = g.H.Host.told c.args.host.now in
     let new = g.H.Host.told c.over_store-status.new.host in
     let words = map string_bytes c.args.words.now in
-    let asked = rw c.in-Some-Work.field-0-is at (rw c.in-Some-Work.is at c.in-Ok.ensures) in
+    let asked = asked_here g (goal.at.returns-in-Some-Work-clause-part g c).In-Some-Work in
     for_each (λ t. Throughout old new (λ disk said. AddsPart (said_now old) (replies (task_of t (played play empty first) old.left).answers) said))
     words c.in-Some-Work.tool asked (c.over_store-status.ensures.part first stood) tool asks
 
@@ -43,7 +50,7 @@ returns-in-Some-Work-clause-moments g c = λ tool first stood asks.
     let old = g.H.Host.told c.args.host.now in
     let new = g.H.Host.told c.over_store-status.new.host in
     let words = map string_bytes c.args.words.now in
-    let asked = rw c.in-Some-Work.field-0-is at (rw c.in-Some-Work.is at c.in-Ok.ensures) in
+    let asked = asked_here g (goal.at.returns-in-Some-Work-clause-moments g c).In-Some-Work in
     for_each
     (λ t.
     let answers = (task_of t (played play empty first) old.left).answers in
@@ -55,7 +62,7 @@ returns-in-Some-Work-clause-stopped g c = λ told tool first stood asks.
     let old = g.H.Host.told c.args.host.now in
     let new = g.H.Host.told c.over_store-status.new.host in
     let words = map string_bytes c.args.words.now in
-    let asked = rw c.in-Some-Work.field-0-is at (rw c.in-Some-Work.is at c.in-Ok.ensures) in
+    let asked = asked_here g (goal.at.returns-in-Some-Work-clause-stopped g c).In-Some-Work in
     for_each (λ t. IsKept (task_of t (played play empty first) old.left) first old new)
     words c.in-Some-Work.tool asked (c.over_store-status.ensures.stopped told first stood) tool asks
 
@@ -64,7 +71,7 @@ returns-in-Some-Work-clause-complete g c = λ told tool first stood asks none.
     let old = g.H.Host.told c.args.host.now in
     let new = g.H.Host.told c.over_store-status.new.host in
     let words = map string_bytes c.args.words.now in
-    let asked = rw c.in-Some-Work.field-0-is at (rw c.in-Some-Work.is at c.in-Ok.ensures) in
+    let asked = asked_here g (goal.at.returns-in-Some-Work-clause-complete g c).In-Some-Work in
     for_each (λ t. (c.over_store-status.result ≡ (task_of t (played play empty first) old.left).end) ⊎ (c.over_store-status.result ≡ Memory))
     words c.in-Some-Work.tool asked (c.over_store-status.ensures.complete told first stood none) tool asks
 
@@ -73,7 +80,7 @@ returns-in-Some-Work-clause-unread g c = λ tool first stood asks.
     let old = g.H.Host.told c.args.host.now in
     let new = g.H.Host.told c.over_store-status.new.host in
     let words = map string_bytes c.args.words.now in
-    let asked = rw c.in-Some-Work.field-0-is at (rw c.in-Some-Work.is at c.in-Ok.ensures) in
+    let asked = asked_here g (goal.at.returns-in-Some-Work-clause-unread g c).In-Some-Work in
     for_each (λ t. KeepsUnread (task_of t (played play empty first) old.left) old new)
     words c.in-Some-Work.tool asked (c.over_store-status.ensures.unread first) tool asks
 
@@ -82,7 +89,7 @@ returns-in-Some-Work-clause-still g c = λ tool first stood asks.
     let old = g.H.Host.told c.args.host.now in
     let new = g.H.Host.told c.over_store-status.new.host in
     let words = map string_bytes c.args.words.now in
-    let asked = rw c.in-Some-Work.field-0-is at (rw c.in-Some-Work.is at c.in-Ok.ensures) in
+    let asked = asked_here g (goal.at.returns-in-Some-Work-clause-still g c).In-Some-Work in
     for_each
     (λ t. events (task_of t (played play empty first) old.left).answers ≡ [] → new_size < length (disk_now old).now
     → Throughout old new (λ disk said. IsAtMostSynced (disk_now old) disk))
@@ -93,8 +100,7 @@ returns-in-Some-Work-clause-bad g c = λ is. absurd (c.over_store-status.ensures
 
 pub returns-in-Some-Work-clause-words : goal.returns-in-Some-Work-clause-words
 returns-in-Some-Work-clause-words g c = λ bad.
-    absurd (none_asked (map string_bytes c.args.words.now) c.in-Some-Work.tool bad
-    (rw c.in-Some-Work.field-0-is at (rw c.in-Some-Work.is at c.in-Ok.ensures)))
+    absurd (none_asked (map string_bytes c.args.words.now) c.in-Some-Work.tool bad (asked_here g (goal.at.returns-in-Some-Work-clause-words g c).In-Some-Work))
 
 pub returns-in-Some-Work-clause-untouched : goal.returns-in-Some-Work-clause-untouched
 returns-in-Some-Work-clause-untouched g c = λ is. absurd (c.over_store-status.ensures.words is)
@@ -110,59 +116,52 @@ returns-in-Some-Work-clause-damages g c = λ other told none. inr (c.over_store-
 
 pub returns-in-Some-Work-clause-replay : goal.returns-in-Some-Work-clause-replay
 returns-in-Some-Work-clause-replay g c = λ replay.
-    absurd (no_tool (map string_bytes c.args.words.now) c.in-Some-Work.tool replay
-    (rw c.in-Some-Work.field-0-is at (rw c.in-Some-Work.is at c.in-Ok.ensures)))
+    absurd (no_tool (map string_bytes c.args.words.now) c.in-Some-Work.tool replay (asked_here g (goal.at.returns-in-Some-Work-clause-replay g c).In-Some-Work))
 
 pub returns-in-Some-Work-clause-script : goal.returns-in-Some-Work-clause-script
 returns-in-Some-Work-clause-script g c = λ replay told first stood.
-    absurd (no_tool (map string_bytes c.args.words.now) c.in-Some-Work.tool replay
-    (rw c.in-Some-Work.field-0-is at (rw c.in-Some-Work.is at c.in-Ok.ensures)))
+    absurd (no_tool (map string_bytes c.args.words.now) c.in-Some-Work.tool replay (asked_here g (goal.at.returns-in-Some-Work-clause-script g c).In-Some-Work))
 
 pub returns-in-Some-Work-clause-whole : goal.returns-in-Some-Work-clause-whole
 returns-in-Some-Work-clause-whole g c = λ replay told first stood none.
-    absurd (no_tool (map string_bytes c.args.words.now) c.in-Some-Work.tool replay
-    (rw c.in-Some-Work.field-0-is at (rw c.in-Some-Work.is at c.in-Ok.ensures)))
+    absurd (no_tool (map string_bytes c.args.words.now) c.in-Some-Work.tool replay (asked_here g (goal.at.returns-in-Some-Work-clause-whole g c).In-Some-Work))
 
 pub returns-in-Some-Work-clause-broken : goal.returns-in-Some-Work-clause-broken
 returns-in-Some-Work-clause-broken g c = λ replay told none.
-    absurd (no_tool (map string_bytes c.args.words.now) c.in-Some-Work.tool replay
-    (rw c.in-Some-Work.field-0-is at (rw c.in-Some-Work.is at c.in-Ok.ensures)))
+    absurd (no_tool (map string_bytes c.args.words.now) c.in-Some-Work.tool replay (asked_here g (goal.at.returns-in-Some-Work-clause-broken g c).In-Some-Work))
 
 -- ---- the store is asked for as a script
+no_tool_here : (g : Over) (c : In-Some-Replay g) (tool : Tool) → AskFor (map string_bytes c.args.words.now) tool → ⊥
+no_tool_here g c tool asks =
+    no_tool (map string_bytes c.args.words.now) tool (rw c.in-Some-Replay.field-0-is at (rw c.in-Some-Replay.is at c.in-Ok.ensures)) asks
+
 pub returns-in-Some-Replay-clause-ends : goal.returns-in-Some-Replay-clause-ends
 returns-in-Some-Replay-clause-ends g c = λ told tool first stood asks.
-    absurd (no_tool (map string_bytes c.args.words.now) tool
-    (rw c.in-Some-Replay.field-0-is at (rw c.in-Some-Replay.is at c.in-Ok.ensures)) asks)
+    absurd (no_tool_here g (goal.at.returns-in-Some-Replay-clause-ends g c).In-Some-Replay tool asks)
 
 pub returns-in-Some-Replay-clause-part : goal.returns-in-Some-Replay-clause-part
 returns-in-Some-Replay-clause-part g c = λ tool first stood asks.
-    absurd (no_tool (map string_bytes c.args.words.now) tool
-    (rw c.in-Some-Replay.field-0-is at (rw c.in-Some-Replay.is at c.in-Ok.ensures)) asks)
+    absurd (no_tool_here g (goal.at.returns-in-Some-Replay-clause-part g c).In-Some-Replay tool asks)
 
 pub returns-in-Some-Replay-clause-moments : goal.returns-in-Some-Replay-clause-moments
 returns-in-Some-Replay-clause-moments g c = λ tool first stood asks.
-    absurd (no_tool (map string_bytes c.args.words.now) tool
-    (rw c.in-Some-Replay.field-0-is at (rw c.in-Some-Replay.is at c.in-Ok.ensures)) asks)
+    absurd (no_tool_here g (goal.at.returns-in-Some-Replay-clause-moments g c).In-Some-Replay tool asks)
 
 pub returns-in-Some-Replay-clause-stopped : goal.returns-in-Some-Replay-clause-stopped
 returns-in-Some-Replay-clause-stopped g c = λ told tool first stood asks.
-    absurd (no_tool (map string_bytes c.args.words.now) tool
-    (rw c.in-Some-Replay.field-0-is at (rw c.in-Some-Replay.is at c.in-Ok.ensures)) asks)
+    absurd (no_tool_here g (goal.at.returns-in-Some-Replay-clause-stopped g c).In-Some-Replay tool asks)
 
 pub returns-in-Some-Replay-clause-complete : goal.returns-in-Some-Replay-clause-complete
 returns-in-Some-Replay-clause-complete g c = λ told tool first stood asks none.
-    absurd (no_tool (map string_bytes c.args.words.now) tool
-    (rw c.in-Some-Replay.field-0-is at (rw c.in-Some-Replay.is at c.in-Ok.ensures)) asks)
+    absurd (no_tool_here g (goal.at.returns-in-Some-Replay-clause-complete g c).In-Some-Replay tool asks)
 
 pub returns-in-Some-Replay-clause-still : goal.returns-in-Some-Replay-clause-still
 returns-in-Some-Replay-clause-still g c = λ tool first stood asks.
-    absurd (no_tool (map string_bytes c.args.words.now) tool
-    (rw c.in-Some-Replay.field-0-is at (rw c.in-Some-Replay.is at c.in-Ok.ensures)) asks)
+    absurd (no_tool_here g (goal.at.returns-in-Some-Replay-clause-still g c).In-Some-Replay tool asks)
 
 pub returns-in-Some-Replay-clause-unread : goal.returns-in-Some-Replay-clause-unread
 returns-in-Some-Replay-clause-unread g c = λ tool first stood asks.
-    absurd (no_tool (map string_bytes c.args.words.now) tool
-    (rw c.in-Some-Replay.field-0-is at (rw c.in-Some-Replay.is at c.in-Ok.ensures)) asks)
+    absurd (no_tool_here g (goal.at.returns-in-Some-Replay-clause-unread g c).In-Some-Replay tool asks)
 
 pub returns-in-Some-Replay-clause-bad : goal.returns-in-Some-Replay-clause-bad
 returns-in-Some-Replay-clause-bad g c = λ is.
@@ -221,33 +220,36 @@ pub returns-in-Some-Replay-clause-course : goal.returns-in-Some-Replay-clause-co
 returns-in-Some-Replay-clause-course g c = c.replay_store.ensures.replay.course
 
 -- ---- nothing is asked for
+none_asked_here : (g : Over) (c : In-None g) (tool : Tool) → AskFor (map string_bytes c.args.words.now) tool → ⊥
+none_asked_here g c tool asks = none_asked (map string_bytes c.args.words.now) tool (rw c.in-None.is at c.in-Ok.ensures) asks
+
 pub returns-in-None-clause-ends : goal.returns-in-None-clause-ends
 returns-in-None-clause-ends g c = λ told tool first stood asks.
-    absurd (none_asked (map string_bytes c.args.words.now) tool (rw c.in-None.is at c.in-Ok.ensures) asks)
+    absurd (none_asked_here g (goal.at.returns-in-None-clause-ends g c).In-None tool asks)
 
 pub returns-in-None-clause-part : goal.returns-in-None-clause-part
 returns-in-None-clause-part g c = λ tool first stood asks.
-    absurd (none_asked (map string_bytes c.args.words.now) tool (rw c.in-None.is at c.in-Ok.ensures) asks)
+    absurd (none_asked_here g (goal.at.returns-in-None-clause-part g c).In-None tool asks)
 
 pub returns-in-None-clause-moments : goal.returns-in-None-clause-moments
 returns-in-None-clause-moments g c = λ tool first stood asks.
-    absurd (none_asked (map string_bytes c.args.words.now) tool (rw c.in-None.is at c.in-Ok.ensures) asks)
+    absurd (none_asked_here g (goal.at.returns-in-None-clause-moments g c).In-None tool asks)
 
 pub returns-in-None-clause-stopped : goal.returns-in-None-clause-stopped
 returns-in-None-clause-stopped g c = λ told tool first stood asks.
-    absurd (none_asked (map string_bytes c.args.words.now) tool (rw c.in-None.is at c.in-Ok.ensures) asks)
+    absurd (none_asked_here g (goal.at.returns-in-None-clause-stopped g c).In-None tool asks)
 
 pub returns-in-None-clause-complete : goal.returns-in-None-clause-complete
 returns-in-None-clause-complete g c = λ told tool first stood asks none.
-    absurd (none_asked (map string_bytes c.args.words.now) tool (rw c.in-None.is at c.in-Ok.ensures) asks)
+    absurd (none_asked_here g (goal.at.returns-in-None-clause-complete g c).In-None tool asks)
 
 pub returns-in-None-clause-still : goal.returns-in-None-clause-still
 returns-in-None-clause-still g c = λ tool first stood asks.
-    absurd (none_asked (map string_bytes c.args.words.now) tool (rw c.in-None.is at c.in-Ok.ensures) asks)
+    absurd (none_asked_here g (goal.at.returns-in-None-clause-still g c).In-None tool asks)
 
 pub returns-in-None-clause-unread : goal.returns-in-None-clause-unread
 returns-in-None-clause-unread g c = λ tool first stood asks.
-    absurd (none_asked (map string_bytes c.args.words.now) tool (rw c.in-None.is at c.in-Ok.ensures) asks)
+    absurd (none_asked_here g (goal.at.returns-in-None-clause-unread g c).In-None tool asks)
 
 pub returns-in-None-clause-bad : goal.returns-in-None-clause-bad
 returns-in-None-clause-bad g c = λ is. rw c.in-None.is at c.in-Ok.ensures

@@ -1,13 +1,12 @@
 -- the rank written in the list and at the element
-use Rattle.std.proofs.Common.{sym, ap, subst, ◌∙◌}
+use Rattle.std.proofs.Common.{sym, ap, ◌∙◌}
 use Rattle.std.specs.Prelude.{Some}
 use Rattle.std.specs.FinMap.{get}
-use Rattle.model_graph.specs.Seen.{IsListWritten}
 use Rattle.model_graph.proofs.Housed.{alike_there, lists_alike}
 use Rattle.model_graph.proofs.Linked.{live_there}
 use Rattle.model_graph.proofs.Stored.{housed_place, reranked_state, reranked_kept}
 use Rattle.std.specs.Option.{option_copied}
-use Rattle.model_graph.proofs.Stored.{no_live}
+use Rattle.model_graph.proofs.Stored.{no_live, written_for}
 use Rattle.model_graph.proofs.write.GraphWrite.rerank.Goals as goal
 
 pub list_in-requires : goal.list_in-requires
@@ -21,24 +20,24 @@ unreachable-requires c =
 
 pub write_placed-requires : goal.write_placed-requires
 write_placed-requires c =
-    alike_there c.self.inside.nodes c.list_in.new.nodes
-    (lists_alike c.in_ok-place.place c.args.e.now (Some c.args.rank) c.self.inside.roots c.self.inside.nodes c.list_in.new.roots c.list_in.new.nodes
-    (subst (λ x. IsListWritten c.in_ok-place.place x
-    (Some c.args.rank) c.self.inside.roots c.self.inside.nodes c.list_in.new.roots c.list_in.new.nodes) c.in_ok-id.ensures
-    c.in_ok-list_in.ensures.ok)) c.args.e.now (live_there c.self.inside.nodes c.args.self.now c.args.e.now c.self.view_is c.requires)
+    let written = written_for c.in_ok-place.place c.in_ok-id.id c.args.e.now (Some c.args.rank) c.self.inside.roots c.self.inside.nodes
+    c.list_in.new.roots c.list_in.new.nodes c.in_ok-id.ensures c.in_ok-list_in.ensures.ok in
+    alike_there c.self.inside.nodes c.list_in.new.nodes (lists_alike c.in_ok-place.place c.args.e.now (Some c.args.rank) c.self.inside.roots
+    c.self.inside.nodes c.list_in.new.roots c.list_in.new.nodes written) c.args.e.now
+    (live_there c.self.inside.nodes c.args.self.now c.args.e.now c.self.view_is c.requires)
 
 pub invariant_of-self-2 : goal.invariant_of-self-2
 invariant_of-self-2 c =
+    let written = written_for c.in_ok-place.place c.in_ok-id.id c.args.e.now (Some c.args.rank) c.self.inside.roots c.self.inside.nodes
+    c.list_in.new.roots c.list_in.new.nodes c.in_ok-id.ensures c.in_ok-list_in.ensures.ok in
     reranked_kept c.self.inside.roots c.self.inside.nodes c.list_in.new.roots c.list_in.new.nodes c.write_placed.new.nodes c.args.self.now
-    c.args.e.now c.in-Some.node.now c.in_ok-place.place c.args.rank c.self.view_is (sym c.in-Some.ensures) (sym c.in_ok-place.ensures)
-    (subst (λ x. IsListWritten c.in_ok-place.place x
-    (Some c.args.rank) c.self.inside.roots c.self.inside.nodes c.list_in.new.roots c.list_in.new.nodes) c.in_ok-id.ensures
-    c.in_ok-list_in.ensures.ok) c.write_placed.ensures c.self.invariant
+    c.args.e.now c.in-Some.node.now c.in_ok-place.place c.args.rank c.self.view_is (sym c.in-Some.ensures) (sym c.in_ok-place.ensures) written
+    c.write_placed.ensures c.self.invariant
 
 pub returns-clause-ok : goal.returns-clause-ok
 returns-clause-ok c =
+    let written = written_for c.in_ok-place.place c.in_ok-id.id c.args.e.now (Some c.args.rank) c.self.inside.roots c.self.inside.nodes
+    c.list_in.new.roots c.list_in.new.nodes c.in_ok-id.ensures c.in_ok-list_in.ensures.ok in
     reranked_state c.self.inside.roots c.self.inside.nodes c.list_in.new.roots c.list_in.new.nodes c.write_placed.new.nodes c.args.self.now
-    c.args.e.now c.in-Some.node.now c.in_ok-place.place c.args.rank c.self.view_is (sym c.in-Some.ensures) (sym c.in_ok-place.ensures)
-    (subst (λ x. IsListWritten c.in_ok-place.place x
-    (Some c.args.rank) c.self.inside.roots c.self.inside.nodes c.list_in.new.roots c.list_in.new.nodes) c.in_ok-id.ensures
-    c.in_ok-list_in.ensures.ok) c.write_placed.ensures
+    c.args.e.now c.in-Some.node.now c.in_ok-place.place c.args.rank c.self.view_is (sym c.in-Some.ensures) (sym c.in_ok-place.ensures) written
+    c.write_placed.ensures

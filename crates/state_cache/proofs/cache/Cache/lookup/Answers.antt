@@ -8,30 +8,35 @@ use Rattle.state_cache.specs.Entries.{Entries, held, stands, IsCached}
 use Rattle.state_cache.proofs.Listed.{found_out, lookup_stands, promoted_stands, promoted_out, promoted_none}
 use Rattle.state_cache.proofs.cache.Cache.lookup.Goals as goal
 
+-- what a look-up in the list gave is what the state has
+looked_up : (version : ℕ) {inside view : Entries} {o : Option PagedState} → inside ≡ view → o ≡ lookup (nat_eq version) inside
+    → lookup (nat_eq version) view ≡ o
+looked_up version same is = ap (λ (es : Entries). lookup (nat_eq version) es) (sym same) ∙ sym is
+
 pub read-requires : goal.read-requires
 read-requires c = record {
   out =
       found_out (nat_eq c.args.version) c.args.pool.now c.args.self.now c.in-Some.paged.now
-      (ap (λ (es : Entries). lookup (nat_eq c.args.version) es) (sym c.self.view_is) ∙ sym c.in-Some.ensures) c.requires.out;
+      (looked_up c.args.version c.self.view_is c.in-Some.ensures) c.requires.out;
 }
 
 pub returns-in-None-clause-found : goal.returns-in-None-clause-found
 returns-in-None-clause-found c =
     sym (lookup_stands (nat_eq c.args.version) c.args.pool.now c.args.self.now
     ∙ ap (λ (o : Option PagedState). option_map (λ p. content c.args.pool.now p) o)
-    (ap (λ (es : Entries). lookup (nat_eq c.args.version) es) (sym c.self.view_is) ∙ sym c.in-None.ensures))
+    (looked_up c.args.version c.self.view_is c.in-None.ensures))
 
 pub returns-in-None-clause-first : goal.returns-in-None-clause-first
 returns-in-None-clause-first c =
     sym (promoted_none (nat_eq c.args.version) c.args.self.now
-    (ap (λ (es : Entries). lookup (nat_eq c.args.version) es) (sym c.self.view_is) ∙ sym c.in-None.ensures))
+    (looked_up c.args.version c.self.view_is c.in-None.ensures))
 
 pub returns-in-None-clause-order : goal.returns-in-None-clause-order
 returns-in-None-clause-order c =
     sym (promoted_stands (nat_eq c.args.version) c.args.pool.now c.args.self.now
     ∙ ap (λ (es : Entries). stands c.args.pool.now es)
     (promoted_none (nat_eq c.args.version) c.args.self.now
-    (ap (λ (es : Entries). lookup (nat_eq c.args.version) es) (sym c.self.view_is) ∙ sym c.in-None.ensures)))
+    (looked_up c.args.version c.self.view_is c.in-None.ensures)))
 
 pub invariant_of-self : goal.invariant_of-self
 invariant_of-self c =
@@ -53,7 +58,7 @@ returns-clause-found c =
     ap (λ (l : List ℕ). Some l) c.in_ok-bytes-in-Some.ensures.read
     ∙ sym (lookup_stands (nat_eq c.args.version) c.args.pool.now c.args.self.now
     ∙ ap (λ (o : Option PagedState). option_map (λ p. content c.args.pool.now p) o)
-    (ap (λ (es : Entries). lookup (nat_eq c.args.version) es) (sym c.self.view_is) ∙ sym c.in-Some.ensures))
+    (looked_up c.args.version c.self.view_is c.in-Some.ensures))
 
 pub returns-clause-order : goal.returns-clause-order
 returns-clause-order c =

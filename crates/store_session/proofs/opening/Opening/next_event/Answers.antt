@@ -1,7 +1,7 @@
 -- The next event read and played, or the first that can't be: where the opening stands then, and which fault it is.
 use Rattle.std.proofs.Common.{◌≡◌, ◌^◌, ◌<◌, ◌++◌, ℕ, List, [], ◌∷◌, arith, length, refl, sym, ◌∙◌, ap, subst}
 use Rattle.std.specs.Prelude.{IsTrue, map}
-use Rattle.host_port.specs.Host.{disk_now}
+use Rattle.host_port.specs.Host.{Disk, disk_now}
 use Rattle.host_port.proofs.Course.{kept_now}
 use Rattle.commit_journal.specs.Journal.{WalkState, IsStuck, ReadsTo, StandsForNone}
 use Rattle.op_form.specs.declared.event.Event.{Event}
@@ -24,11 +24,14 @@ end_of s = s.end
 abbrev place_of : WalkState → ℕ
 place_of w = w.place
 
+-- some events, played one after the other, give the state at that place of the disk's file
+abbrev HasReplayed : Disk → OpeningState → Type 0
+HasReplayed disk o = (made : List Event) × IsReplayed disk o.state o.next made
+
 pub next_record-requires : goal.next_record-requires
 next_record-requires g c = record {
   walked = λ told.
-      let had = subst (λ (o : OpeningState). (made : List Event) × IsReplayed (disk_now (g.H.Host.told c.args.host.now)) o.state o.next made)
-      (sym c.self.view_is) (c.requires.replayed told) in
+      let had = subst (HasReplayed (disk_now (g.H.Host.told c.args.host.now))) (sym c.self.view_is) (c.requires.replayed told) in
       (map event_encoding had.0, had.1.walked);
 }
 
@@ -49,8 +52,7 @@ returns-in-Err-clause-damaged g c = rw c.session_fault.ensures (damage_of c.in-E
     (λ (at : ℕ). IsTrue (g.H.Host.told c.args.host.now).tells
     → IsDamaged (disk_now (g.H.Host.told c.args.host.now)).now at × StandsForNoEvents (disk_now (g.H.Host.told c.args.host.now)).now)
     (λ at stuck none told.
-    let had = subst (λ (o : OpeningState). (made : List Event) × IsReplayed (disk_now (g.H.Host.told c.args.host.now)) o.state o.next made)
-    (sym c.self.view_is) (c.requires.replayed told) in
+    let had = subst (HasReplayed (disk_now (g.H.Host.told c.args.host.now))) (sym c.self.view_is) (c.requires.replayed told) in
     stuck_is_damage (disk_now (g.H.Host.told c.args.host.now)) c.self.inside.repo c.self.inside.walk.next at had.0 had.1
     (subst (λ (n : ℕ). n < 2 ^ 40) (ap next_of c.in-Err.ensures.err) c.next_record.ensures.low) stuck.0 (stuck.1 told) (none told))
     c.in-Err.ensures.damaged c.in-Err.ensures.nothing)
@@ -93,8 +95,7 @@ returns-in-Ok-clause-at g c =
 
 pub returns-in-Err-NotPlayable-clause-damaged : goal.returns-in-Err-NotPlayable-clause-damaged
 returns-in-Err-NotPlayable-clause-damaged g c = λ told.
-    let had = subst (λ (o : OpeningState). (made : List Event) × IsReplayed (disk_now (g.H.Host.told c.args.host.now)) o.state o.next made)
-    (sym c.self.view_is) (c.requires.replayed told) in
+    let had = subst (HasReplayed (disk_now (g.H.Host.told c.args.host.now))) (sym c.self.view_is) (c.requires.replayed told) in
     let some = rw c.in-Ok-Some.field-0-is at c.in-Ok-Some.ensures.some in
     let walked = rw c.in-Ok-Some.field-0-is at c.in-Ok-Some.ensures.walked in
     event_is_damage (disk_now (g.H.Host.told c.args.host.now)) c.self.inside.repo c.self.inside.walk.next c.next_record.new.walk.next c.place.result

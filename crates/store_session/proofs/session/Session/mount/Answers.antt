@@ -5,7 +5,16 @@ use Rattle.host_port.specs.Host.{disk_now}
 use Rattle.host_port.proofs.Course.{told_next}
 use Rattle.plain_repository.specs.Store.{IsDamaged, StandsForNoEvents}
 use Rattle.store_session.proofs.Reading.{damage_on, damage_since, mounted, mounts_on, mounts_said, mounts_since}
+use Rattle.store_session.specs.Opening.{IsOpenedSince}
+use Rattle.store_session.proofs.session.Session.mount.Given.{Over}
+use Rattle.store_session.proofs.session.Session.mount.Goals.{After-next_event}
 use Rattle.store_session.proofs.session.Session.mount.Goals as goal
+
+-- at the next event the store stands as it was opened
+since_here : (g : Over) (c : After-next_event g) → IsOpenedSince (g.H.Host.told c.args.host.now) (g.H.Host.told c.next_event.new.host)
+since_here g c =
+    mounts_since (g.H.Host.told c.args.host.now) (g.H.Host.told c.records.host) (g.H.Host.told c.next_event.new.host) c.records.opening
+    c.records.invariant c.next_event.ensures.course c.next_event.ensures.disk c.next_event.ensures.said c.next_event.ensures.input
 
 pub records-init : goal.records-init
 records-init g c = record {
@@ -43,15 +52,11 @@ returns-in-Err-next_event-clause-damaged g c = damage_on c.in-Err-next_event.fau
 
 pub returns-in-Err-next_event-clause-moments : goal.returns-in-Err-next_event-clause-moments
 returns-in-Err-next_event-clause-moments g c =
-    (mounts_since (g.H.Host.told c.args.host.now) (g.H.Host.told c.records.host)
-    (g.H.Host.told c.next_event.new.host) c.records.opening c.records.invariant c.next_event.ensures.course c.next_event.ensures.disk
-    c.next_event.ensures.said c.next_event.ensures.input).moments
+    (since_here g (goal.at.returns-in-Err-next_event-clause-moments g c).After-next_event).moments
 
 pub returns-in-Err-next_event-clause-long : goal.returns-in-Err-next_event-clause-long
 returns-in-Err-next_event-clause-long g c =
-    (mounts_since (g.H.Host.told c.args.host.now) (g.H.Host.told c.records.host)
-    (g.H.Host.told c.next_event.new.host) c.records.opening c.records.invariant c.next_event.ensures.course c.next_event.ensures.disk
-    c.next_event.ensures.said c.next_event.ensures.input).long
+    (since_here g (goal.at.returns-in-Err-next_event-clause-long g c).After-next_event).long
 
 pub returns-in-Err-next_event-clause-said : goal.returns-in-Err-next_event-clause-said
 returns-in-Err-next_event-clause-said g c =
@@ -61,15 +66,11 @@ returns-in-Err-next_event-clause-said g c =
 
 pub returns-in-Ok-None-clause-moments : goal.returns-in-Ok-None-clause-moments
 returns-in-Ok-None-clause-moments g c =
-    (mounts_since (g.H.Host.told c.args.host.now) (g.H.Host.told c.records.host)
-    (g.H.Host.told c.next_event.new.host) c.records.opening c.records.invariant c.next_event.ensures.course c.next_event.ensures.disk
-    c.next_event.ensures.said c.next_event.ensures.input).moments
+    (since_here g (goal.at.returns-in-Ok-None-clause-moments g c).After-next_event).moments
 
 pub returns-in-Ok-None-clause-long : goal.returns-in-Ok-None-clause-long
 returns-in-Ok-None-clause-long g c =
-    (mounts_since (g.H.Host.told c.args.host.now) (g.H.Host.told c.records.host)
-    (g.H.Host.told c.next_event.new.host) c.records.opening c.records.invariant c.next_event.ensures.course c.next_event.ensures.disk
-    c.next_event.ensures.said c.next_event.ensures.input).long
+    (since_here g (goal.at.returns-in-Ok-None-clause-long g c).After-next_event).long
 
 pub returns-in-Ok-None-clause-said : goal.returns-in-Ok-None-clause-said
 returns-in-Ok-None-clause-said g c =
