@@ -1,8 +1,8 @@
 -- The children of an element are those that stand right inside it, each once.
-use Rattle.std.proofs.Common.{◌≡◌, ℕ, Bool, true, false, cond, List, [], ◌∷◌, ◌++◌, refl, sym, ap, subst, ◌∙◌, ◌&&◌, ◌||◌, length, map, inl, inr}
+use Rattle.std.proofs.Common.{◌≡◌, ℕ, Bool, true, false, List, [], ◌∷◌, ◌++◌, refl, sym, ap, subst, ◌∙◌, ◌&&◌, ◌||◌, length, inl, inr}
 use Rattle.std.specs.Prelude.{Option, None, Some}
-use Rattle.std.specs.List.{filter, list_any, AllByRecursion}
-use Rattle.std.specs.FinMap.{FinMap, get, entries}
+use Rattle.std.specs.List.{list_any, AllByRecursion}
+use Rattle.std.specs.FinMap.{FinMap, get}
 use Rattle.finite_maps.specs.Equal.{text_eq}
 use Rattle.finite_maps.proofs.Cases.{true_false}
 use Rattle.finite_maps.proofs.EqualLaws.{and_both, text_equality}
@@ -21,8 +21,8 @@ use Rattle.model_state.specs.Typing.{kind_of, is_containment, contains_to}
 use Rattle.model_state.specs.Good.{Good, PlaceOk}
 use Rattle.model_state.proofs.Orders.{id_order}
 use Rattle.model_state.proofs.StepTests.{place_equality}
-use Rattle.edit_steps.proofs.Lists.{Apart, apart_from, any-in_order, any-map, all-in_order, entries_held, picked_has}
-use Rattle.edit_steps.proofs.Creates.{spot_of, one_child}
+use Rattle.edit_steps.proofs.Lists.{Apart, apart_from, any-in_order, any-map, picked_has}
+use Rattle.edit_steps.proofs.Creates.{children_there, spot_of, one_child}
 use Rattle.edit_steps.specs.Subtree.{children_by, features_of, is_among, numbers}
 use Rattle.edit_steps.proofs.Members.{In, Distinct, in_left, in_right, in_either, kept_in, distinct_join, distinct_filter, numbers_distinct}
 use Rattle.edit_steps.proofs.Members.{numbers_have, within_list, among_in}
@@ -43,22 +43,6 @@ feature_listed meta p c f none has pass =
 
 -- ---- the elements of a place
 module _ (m : State) (p : Place) where
-  mapped : (es : List (IdBytes × Place)) → AllByRecursion (λ (e : IdBytes × Place). get m.place e.0 ≡ Some e.1) es
-      → AllByRecursion (λ (x : Entry). get m.place x.id ≡ Some p) (map (spot_of m.prank) (filter (λ (e : IdBytes × Place). place_eq p e.1) es))
-  mapped [] all = tt
-  mapped (e ∷ es) all =
-      elim (place_eq p e.1) as (λ b. place_eq p e.1 ≡ b
-      → AllByRecursion (λ (x : Entry). get m.place x.id ≡ Some p)
-      (map (spot_of m.prank)
-      (cond {A = List (IdBytes × Place)} b (e ∷ filter (λ (e : IdBytes × Place). place_eq p e.1) es)
-      (filter (λ (e : IdBytes × Place). place_eq p e.1) es)))) [
-        | true ↦ λ is. (all.0 ∙ ap Some (sym (place_equality.exact p e.1 is)), mapped es all.1)
-        | false ↦ λ _. mapped es all.1
-      ] refl
-
-  pub children_there : AllByRecursion (λ (x : Entry). get m.place x.id ≡ Some p) (children m.place m.prank p)
-  children_there = all-in_order entry_cmp (λ (x : Entry). get m.place x.id ≡ Some p) _ (mapped (entries m.place) (entries_held id_order m.place))
-
   any_id : (y : IdBytes) (xs : List Entry) → list_any (λ (x : Entry). text_eq y x.id) xs ≡ is_among (ids_of xs) y
   any_id y [] = refl
   any_id y (x ∷ xs) = ap (λ b. text_eq y x.id || b) (any_id y xs)
@@ -76,7 +60,7 @@ module _ (m : State) (p : Place) where
   in_there (x ∷ xs) all y (inr h) = in_there xs all.1 y h
 
   pub child_there : (y : IdBytes) → In y (ids_of (children m.place m.prank p)) → get m.place y ≡ Some p
-  child_there y h = in_there (children m.place m.prank p) children_there y h
+  child_there y h = in_there (children m.place m.prank p) (children_there m p) y h
 
   apart_ids : (xs : List Entry) → Apart xs → Distinct (ids_of xs)
   apart_ids [] h = tt

@@ -22,7 +22,7 @@ use Rattle.model_state.specs.Steps.{tests, Can, fold}
 use Rattle.model_state.specs.Good.{Good, Sound, PlaceOk}
 use Rattle.model_state.specs.Listing.{children, rank_at, entry_cmp}
 use Rattle.model_state.proofs.Orders.{id_order}
-use Rattle.model_state.proofs.StepTests.{pass, number_equality}
+use Rattle.model_state.proofs.StepTests.{pass, number_equality, place_equality}
 use Rattle.finite_maps.proofs.Cases.{not_false, not_so, true_false, some_none, or_first, or_second}
 use Rattle.model_laws.proofs.Runs.{undoes, fold_more, fold_append}
 use Rattle.edit_steps.specs.Spot.{end_spot}
@@ -88,6 +88,24 @@ placed_live meta kind (Some c) p (Some r) ok = (refl, refl)
 
 abbrev pub spot_of : FinMap id_cmp ℕ → IdBytes × Place → Entry
 spot_of prank e = record { rank = rank_at prank e.0; id = e.0 }
+
+-- each of a place's children stands there
+module _ (m : State) (p : Place) where
+  there : (es : List (IdBytes × Place)) → AllByRecursion (λ (e : IdBytes × Place). get m.place e.0 ≡ Some e.1) es
+      → AllByRecursion (λ (x : Entry). get m.place x.id ≡ Some p) (map (spot_of m.prank) (filter (λ (e : IdBytes × Place). place_eq p e.1) es))
+  there [] all = tt
+  there (e ∷ es) all =
+      elim (place_eq p e.1) as (λ b. place_eq p e.1 ≡ b
+      → AllByRecursion (λ (x : Entry). get m.place x.id ≡ Some p)
+      (map (spot_of m.prank)
+      (cond {A = List (IdBytes × Place)} b (e ∷ filter (λ (e : IdBytes × Place). place_eq p e.1) es)
+      (filter (λ (e : IdBytes × Place). place_eq p e.1) es)))) [
+        | true ↦ λ is. (all.0 ∙ ap Some (sym (place_equality.exact p e.1 is)), there es all.1)
+        | false ↦ λ _. there es all.1
+      ] refl
+
+  pub children_there : AllByRecursion (λ (x : Entry). get m.place x.id ≡ Some p) (children m.place m.prank p)
+  children_there = all-in_order entry_cmp (λ (x : Entry). get m.place x.id ≡ Some p) _ (there (entries m.place) (entries_held id_order m.place))
 
 abbrev pub LiveHere : State → Entry → Type 0
 LiveHere m x = (is_live m x.id ≡ true) × (get m.prank x.id ≡ Some x.rank)

@@ -14,6 +14,7 @@ use Rattle.finite_maps.proofs.Cases.{not_false, not_so, true_false, or_first}
 use Rattle.finite_maps.proofs.EqualLaws.{apart, text_equality}
 use Rattle.finite_maps.proofs.MapLaws.{same, same_key, by_key, get-set_same, get-set_other}
 use Rattle.finite_maps.proofs.NestedLaws.{get-without}
+use Rattle.finite_maps.proofs.Truths.{first, second}
 use Rattle.ecore_meta.specs.Meta.{Meta}
 use Rattle.model_state.specs.declared.entry.Incoming.{Incoming}
 use Rattle.model_state.specs.declared.step.Step.{Step}
@@ -40,14 +41,6 @@ Behind k (e ∷ es) = (eq_by_cmp row_cmp e.0 k ≡ false) × Behind k es
 abbrev Keyed : List (RowKey × ℕ) → Type 0
 Keyed [] = Unit {0}
 Keyed (e ∷ es) = Behind e.0 es × Keyed es
-
-first : (a b : Bool) → T (a && b) → T a
-first true b p = tt
-first false b p = p
-
-second : (a b : Bool) → T (a && b) → T b
-second true b p = p
-second false b p = absurd p
 
 less_differs : (x y : RowKey) → T (is_lt (row_cmp x y)) → eq_by_cmp row_cmp y x ≡ false
 less_differs x y h = ap is_eq (row_order.total.antisymm y x) ∙ reversed (row_cmp x y) h

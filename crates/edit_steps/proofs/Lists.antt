@@ -19,14 +19,7 @@ use Rattle.model_state.specs.Keys.{IdBytes, RowKey, row_cmp}
 use Rattle.model_state.specs.Listing.{entry_cmp, is_of, row_entry, targets}
 use Rattle.model_state.proofs.Orders.{row_order}
 use Rattle.finite_maps.proofs.Cases.{not_so, some_none}
-
-first : (a b : Bool) → T (a && b) → T a
-first true b p = tt
-first false b p = p
-
-second : (a b : Bool) → T (a && b) → T b
-second true b p = p
-second false b p = absurd p
+use Rattle.finite_maps.proofs.Truths.{first, second}
 
 -- ---- any item of a list
 or_swap : (a b c : Bool) → a || (b || c) ≡ b || (a || c)

@@ -1,8 +1,8 @@
 -- Moving an element.
-use Rattle.std.proofs.Common.{◌≡◌, ℕ, true, false, cond, not, List, [], ◌∷◌, ◌++◌, refl, sym, ap, subst, ◌∙◌, ◌||◌, nat_eq, map}
+use Rattle.std.proofs.Common.{◌≡◌, ℕ, true, false, cond, not, List, [], ◌∷◌, ◌++◌, refl, sym, ap, subst, ◌∙◌, ◌||◌, nat_eq}
 use Rattle.std.specs.Prelude.{Some, is_some, unwrap_or}
-use Rattle.std.specs.List.{list_any, filter, AllByRecursion}
-use Rattle.std.specs.FinMap.{get, entries}
+use Rattle.std.specs.List.{list_any, AllByRecursion}
+use Rattle.std.specs.FinMap.{get}
 use Rattle.std.proofs.lemmas.Option.{same_Some}
 use Rattle.finite_maps.specs.Equal.{option_eq, text_eq}
 use Rattle.finite_maps.specs.Maps.{set}
@@ -16,7 +16,7 @@ use Rattle.model_state.specs.Keys.{IdBytes}
 use Rattle.model_state.specs.State.{State, is_live, place_eq}
 use Rattle.model_state.specs.Steps.{tests, Can, fold}
 use Rattle.model_state.specs.Good.{Good, Sound, PlaceOk}
-use Rattle.model_state.specs.Listing.{children, rank_at, entry_cmp}
+use Rattle.model_state.specs.Listing.{children, rank_at}
 use Rattle.finite_maps.proofs.Cases.{not_so, true_false, not_false, or_first, or_second}
 use Rattle.model_state.proofs.Orders.{id_order}
 use Rattle.model_state.proofs.StepTests.{pass, number_equality, place_equality}
@@ -25,10 +25,11 @@ use Rattle.edit_steps.specs.Spot.{spot}
 use Rattle.edit_steps.specs.References.{without_entry, stands_at}
 use Rattle.edit_steps.specs.Places.{Ranks, ranked_places, rerank_places, MayMoveWithin, move_within_made, move_within_after}
 use Rattle.edit_steps.specs.Laws.{MoveWithinMeets, MoveToMeets}
-use Rattle.edit_steps.proofs.Lists.{apart_from, all-in_order, entries_held}
+use Rattle.edit_steps.proofs.Lists.{apart_from}
 use Rattle.edit_steps.proofs.Pairs.{some_of}
 use Rattle.edit_steps.proofs.LinkEdits.{all_filter, fewer, none_without, at_most}
-use Rattle.edit_steps.proofs.Creates.{spot_of, Stand, names_differ, rerank_leads, placed_live, LiveHere, children_live, one_child, stand_from, children_stand}
+use Rattle.edit_steps.proofs.Creates.{Stand, names_differ, rerank_leads, placed_live, LiveHere, children_live, children_there, one_child, stand_from}
+use Rattle.edit_steps.proofs.Creates.{children_stand}
 
 pub ranked_missing : (e : IdBytes) (xs : List Entry) (rs : List ℕ) (prank : Ranks) → list_any (λ (x : Entry). text_eq e x.id) xs ≡ false
     → get (ranked_places xs rs prank) e ≡ get prank e
@@ -82,24 +83,6 @@ module _ (meta : Meta) (sound : Sound meta) (m : State) (good : Good meta m) (e 
 
 pub move_within_meets : MoveWithinMeets
 move_within_meets meta sound m good e p k may = within meta sound m good e p k may
-
--- each of a place's children stands there
-module _ (m : State) (p : Place) where
-  mapped : (es : List (IdBytes × Place)) → AllByRecursion (λ (e : IdBytes × Place). get m.place e.0 ≡ Some e.1) es
-      → AllByRecursion (λ (x : Entry). get m.place x.id ≡ Some p) (map (spot_of m.prank) (filter (λ (e : IdBytes × Place). place_eq p e.1) es))
-  mapped [] all = tt
-  mapped (e ∷ es) all =
-      elim (place_eq p e.1) as (λ b. place_eq p e.1 ≡ b
-      → AllByRecursion (λ (x : Entry). get m.place x.id ≡ Some p)
-      (map (spot_of m.prank)
-      (cond {A = List (IdBytes × Place)} b (e ∷ filter (λ (e : IdBytes × Place). place_eq p e.1) es)
-      (filter (λ (e : IdBytes × Place). place_eq p e.1) es)))) [
-        | true ↦ λ is. (all.0 ∙ ap Some (sym (place_equality.exact p e.1 is)), mapped es all.1)
-        | false ↦ λ _. mapped es all.1
-      ] refl
-
-  pub children_there : AllByRecursion (λ (x : Entry). get m.place x.id ≡ Some p) (children m.place m.prank p)
-  children_there = all-in_order entry_cmp (λ (x : Entry). get m.place x.id ≡ Some p) _ (mapped (entries m.place) (entries_held id_order m.place))
 
 -- an element of another place is not among them
 none_such : (m : State) (e : IdBytes) (from to : Place) → get m.place e ≡ Some from → place_eq from to ≡ false → (xs : List Entry)

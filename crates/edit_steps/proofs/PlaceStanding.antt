@@ -30,8 +30,8 @@ use Rattle.edit_steps.specs.Laws.{CreateStands, MoveWithinStands, MoveToStands}
 use Rattle.edit_steps.proofs.Lists.{Apart, apart_from, any-in_order, any-map, picked_has}
 use Rattle.edit_steps.proofs.Pairs.{some_of}
 use Rattle.edit_steps.proofs.LinkEdits.{all_filter, none_without}
-use Rattle.edit_steps.proofs.Creates.{LiveHere, children_live, names_differ, one_child, spot_of, create_meets}
-use Rattle.edit_steps.proofs.MoveEdits.{children_there, placed, ranked_missing, not_there, move_within_meets, move_to_meets}
+use Rattle.edit_steps.proofs.Creates.{LiveHere, children_live, children_there, names_differ, one_child, spot_of, create_meets}
+use Rattle.edit_steps.proofs.MoveEdits.{placed, ranked_missing, not_there, move_within_meets, move_to_meets}
 use Rattle.edit_steps.proofs.Told.{Ranking, AllHeld, Tells, has_id, one_list, apart_filter, has-reranked, has-without, rises_filter, stands}
 use Rattle.edit_steps.proofs.Told.{stands_still, without_none}
 

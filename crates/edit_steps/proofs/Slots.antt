@@ -33,7 +33,8 @@ plain_some meta (Contains t o) d h = cc
 plain_some meta (Container t o) d h = cc
 plain_some meta Skip d h = cc
 
-source_plain : (meta : Meta) (c : Option ℕ) (f : ℕ) (d : Option ℕ) → may_link meta c f d ≡ true
+-- a feature that may link is a plain reference of the source's class
+pub source_plain : (meta : Meta) (c : Option ℕ) (f : ℕ) (d : Option ℕ) → may_link meta c f d ≡ true
     → (class_has meta c f ≡ true) × (is_plain (kind_of meta f) ≡ true)
 source_plain meta None f d h = cc
 source_plain meta (Some c) f None h = cc

@@ -11,23 +11,7 @@ use Rattle.std.specs.FinMap.{entries-from_sorted, find, put, is_sorted}
 use Rattle.std.specs.FinMap.Entries.{below_all, where_key, by_order, is_sorted-where_key, find-where_key}
 use Rattle.finite_maps.specs.Maps.{passes, set, tally, count, counts, is_below, is_within}
 use Rattle.finite_maps.proofs.MapLaws.{IsKeyOrder, same, same_key, own_key}
-
-first : (a b : Bool) → T (a && b) → T a
-first true b p = tt
-first false b p = p
-
-second : (a b : Bool) → T (a && b) → T b
-second true b p = p
-second false b p = absurd p
-
-both : (a b : Bool) → T a → T b → T (a && b)
-both true b p q = q
-both false b p q = p
-
-is_less : (o : Ordering) → T (is_lt o) → o ≡ Less
-is_less Less p = refl
-is_less Equal p = absurd p
-is_less Greater p = absurd p
+use Rattle.finite_maps.proofs.Truths.{first, second, both, is_less, find_below}
 
 put_first : (a b s n : ℕ) → n ≡ 0 → (a + (b + s)) + n ≡ (b + s) + a
 put_first a b s n e = omega arith
@@ -65,11 +49,6 @@ pub lt_of_le : (a b n : ℕ) → a + 1 ≡ b → nat_le b n ≡ true → nat_lt 
 lt_of_le a b n e h = grind (arith, nat_tests)
 
 module _ {K X : Type 0} {R : K → K → Ordering} (o : IsKeyOrder R) where
-  find_below : (q : K) (es : List (K × X)) → T (below_all R q es) → find R q es ≡ None
-  find_below q [] h = refl
-  find_below q (e ∷ es) h =
-      ap (λ r. cond (is_eq r) (Some e.1) (find R q es)) (is_less (R q e.0) (first _ _ h)) ∙ find_below q es (second _ _ h)
-
   below_less : (x y : K) (es : List (K × X)) → R x y ≡ Less → T (below_all R y es) → T (below_all R x es)
   below_less x y [] p h = tt
   below_less x y (e ∷ es) p h =
@@ -85,7 +64,7 @@ module _ {K X : Type 0} {R : K → K → Ordering} (o : IsKeyOrder R) where
       → tally p (by_order r ((k, v) ∷ e ∷ es) ((e.0, v) ∷ es) (e ∷ put R k v es)) + counts p k (cond (is_eq r) (Some e.1) (find R k es)) ≡ tally p
       (e ∷ es) + counts p k (Some v)) [
         | Less ↦ λ is.
-            let none : find R k es ≡ None = find_below k es (below_less k e.0 es is (first _ _ h)) in
+            let none : find R k es ≡ None = find_below R k es (below_less k e.0 es is (first _ _ h)) in
             let none' : counts p k (find R k es) ≡ 0 = ap (counts p k) none in
             put_first _ _ _ _ none'
         | Equal ↦ λ is.
@@ -107,7 +86,7 @@ module _ {K X : Type 0} {R : K → K → Ordering} (o : IsKeyOrder R) where
       → tally p (cond (not b) (e ∷ left) left) + counts p k (cond b (Some e.1) (find R k es)) ≡ tally p (e ∷ es)) [
         | true ↦ λ is.
             let same : k ≡ e.0 = same_key o k e.0 is in
-            let none : find R k es ≡ None = subst (λ x. find R x es ≡ None) (sym same) (find_below e.0 es (first _ _ h)) in
+            let none : find R k es ≡ None = subst (λ x. find R x es ≡ None) (sym same) (find_below R e.0 es (first _ _ h)) in
             let none' : counts p k (find R k es) ≡ 0 = ap (counts p k) none in
             let was : counts p k (Some e.1) ≡ counts p e.0 (Some e.1) = ap (λ x. counts p x (Some e.1)) same in
             taken_here (counts p e.0 (Some e.1)) (tally p es) _ _ _ rest none' was
@@ -148,7 +127,7 @@ module _ {K X : Type 0} {R : K → K → Ordering} (o : IsKeyOrder R) where
       let later : tally p es ≡ 0 = tally_none p es (second _ _ sorted) (λ q v is.
       none q v (elim (eq_by_cmp R q e.0) as (λ b. eq_by_cmp R q e.0 ≡ b → cond b (Some e.1) (find R q es) ≡ Some v) [
         | true ↦ λ t.
-            let gone : find R q es ≡ None = subst (λ x. find R x es ≡ None) (sym (same_key o q e.0 t)) (find_below e.0 es (first _ _ sorted)) in
+            let gone : find R q es ≡ None = subst (λ x. find R x es ≡ None) (sym (same_key o q e.0 t)) (find_below R e.0 es (first _ _ sorted)) in
             cc
         | false ↦ λ _. is
       ] refl)) in
@@ -250,7 +229,7 @@ module _ {K X : Type 0} {R : K → K → Ordering} (o : IsKeyOrder R) (p : K × 
       → find R q (marks p (e ∷ es)) ≡ cond (passes p q (cond t (Some e.1) (find R q es))) (Some tt) None) [
         | true ↦ λ t.
             let here : q ≡ e.0 = same_key o q e.0 t in
-            let none : find R q es ≡ None = subst (λ x. find R x es ≡ None) (sym here) (find_below o e.0 es (first _ _ h)) in
+            let none : find R q es ≡ None = subst (λ x. find R x es ≡ None) (sym here) (find_below R e.0 es (first _ _ h)) in
             let later : find R q (marks p es) ≡ None = find-marks q es (second _ _ h) ∙ ap (λ z. cond (passes p q z) (Some tt) None) none in
             elim (p e) as (λ b. p e ≡ b
             → find R q (cond {A = List (K × Unit {0})} b ((e.0, tt) ∷ marks p es) (marks p es)) ≡ cond (p (q, e.1)) (Some tt) None) [

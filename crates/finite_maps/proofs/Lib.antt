@@ -5,3 +5,4 @@ pub mod TableLaws
 pub mod SortLaws
 pub mod NestedLaws
 pub mod Cases
+pub mod Truths

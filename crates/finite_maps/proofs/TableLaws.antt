@@ -1,10 +1,11 @@
 -- Ordered maps of the program as finite maps.
-use Rattle.std.proofs.Common.{◌≡◌, ℕ, Bool, true, false, cond, List, [], ◌∷◌, refl, sym, ap, subst, ◌∙◌, map, ◌&&◌, ◌+◌, arith, count_by}
+use Rattle.std.proofs.Common.{◌≡◌, ℕ, Bool, true, false, cond, List, [], ◌∷◌, refl, sym, ap, subst, ◌∙◌, map, ◌+◌, arith, count_by}
 use Rattle.std.specs.declared.cmp.Ordering.TheVariants.{Less}
 use Rattle.std.specs.List.{AllByRecursion}
 use Rattle.std.specs.List.Sorted.{IsStrictlySortedBy}
 use Rattle.std.proofs.lemmas.List.Sums.{sum_by-cons}
 use Rattle.finite_maps.proofs.CountLaws.{count-set, count_none}
+use Rattle.finite_maps.proofs.Truths.{both}
 use Rattle.std.specs.Prelude.{Option, None, Some, T}
 use Rattle.std.specs.Option.{option_map}
 use Rattle.std.specs.declared.cmp.Ordering.{Ordering}
@@ -90,19 +91,15 @@ module _ {K X Y : Type 0} {R : K → K → Ordering} (o : IsKeyOrder R) (h : X �
   count-table_of m sorted = count_entries m.entries sorted
 
 -- ---- entries
-both_true : (a b : Bool) → T a → T b → T (a && b)
-both_true true b p q = q
-both_true false b p q = p
-
 module _ {K X : Type 0} (R : K → K → Ordering) where
   all_below : (k : K) (es : List (K × X)) → AllByRecursion (λ y. R k y ≡ Less) (map {B = K} (λ e. e.0) es) → T (below_all R k es)
   all_below k [] h = tt
-  all_below k (e ∷ es) h = both_true (is_lt (R k e.0)) _ (subst (λ r. T (is_lt r)) (sym h.0) tt) (all_below k es h.1)
+  all_below k (e ∷ es) h = both (is_lt (R k e.0)) _ (subst (λ r. T (is_lt r)) (sym h.0) tt) (all_below k es h.1)
 
   strictly : (es : List (K × X)) → IsStrictlySortedBy R (map {B = K} (λ e. e.0) es) → T (is_sorted R es)
   unfolding IsStrictlySortedBy
   strictly [] h = tt
-  strictly (e ∷ es) h = both_true (below_all R e.0 es) _ (all_below e.0 es h.0) (strictly es h.1)
+  strictly (e ∷ es) h = both (below_all R e.0 es) _ (all_below e.0 es h.0) (strictly es h.1)
 
 keys_read : {K X Y : Type 0} (h : X → Y) (es : List (K × X))
     → map {B = K} (λ e. e.0) (map {B = K × Y} (λ (e : K × X). (e.0, h e.1)) es) ≡ map {B = K} (λ e. e.0) es

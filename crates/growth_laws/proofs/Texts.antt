@@ -211,7 +211,8 @@ module _ (o n : Meta) (evolves : Evolves o n) where
       get_left (l ∷ ls) more zero g = refl
       get_left (l ∷ ls) more (suc k) g = get_left ls more k (less k (length ls) g)
 
-  data_same : (s : Scalar) (v : Value) → fits o s v ≡ true → data_of n s v ≡ data_of o s v
+  -- a value that fits has its datum still
+  pub data_same : (s : Scalar) (v : Value) → fits o s v ≡ true → data_of n s v ≡ data_of o s v
   data_same (LiteralType e) (Literal k) h = ap string (literal_same e k h)
   data_same s v h = refl
 

@@ -1,5 +1,5 @@
 //! The lists of an update and of a merge.
-ghost use Rattle.std.specs.Prelude.{◌≡◌, IfOk, IfErr, length};
+ghost use Rattle.std.specs.Prelude.{◌≡◌, IfOk, IfErr, OnOk, length};
 ghost use Rattle.footprint.specs.Buckets.{buckets as buckets_of};
 ghost use Rattle.merge_laws.specs.Merge.{update_list, merge_list};
 ghost use Rattle.merge_choices.specs.Faults.{IsChoiceFault};
@@ -57,6 +57,21 @@ fn merge_list(
     Ok(list)
 }
 
+/// Whether there is a choice for each bucket.
+fn one_for_each(buckets: &Buckets, choices: &[Side]) -> Result<(), ChoiceFault>
+    ensures size { OnOk result (length choices.now ≡ length buckets.now.rows) }
+    ensures fault { IfErr result (λ e. IsChoiceFault buckets.now.rows choices.now e) }
+{
+    let rows = buckets.rows.as_slice();
+    if choices.len() != rows.len() {
+        return Err(ChoiceFault::BadChoice {
+            want: rows.len() as u64,
+            got: choices.len() as u64,
+        });
+    }
+    Ok(())
+}
+
 /// The list that an update appends to theirs: the reversal of what the choices drop of theirs, and then what they keep of mine. The buckets
 /// are those of the two packages, with a choice for each; BadChoice comes exactly where the numbers differ.
 pub fn update_package(
@@ -74,13 +89,8 @@ pub fn update_package(
 {
     // Only the contract needs the metamodel.
     let _meta = meta;
+    one_for_each(buckets, choices)?;
     let rows = buckets.rows.as_slice();
-    if choices.len() != rows.len() {
-        return Err(ChoiceFault::BadChoice {
-            want: rows.len() as u64,
-            got: choices.len() as u64,
-        });
-    }
     match update_list(alloc, theirs, mine, rows, choices) {
         Ok(list) => Ok(list),
         Err(_) => Err(ChoiceFault::Memory),
@@ -104,13 +114,8 @@ pub fn merge_package(
 {
     // Only the contract needs the metamodel.
     let _meta = meta;
+    one_for_each(buckets, choices)?;
     let rows = buckets.rows.as_slice();
-    if choices.len() != rows.len() {
-        return Err(ChoiceFault::BadChoice {
-            want: rows.len() as u64,
-            got: choices.len() as u64,
-        });
-    }
     match merge_list(alloc, theirs, mine, rows, choices) {
         Ok(list) => Ok(list),
         Err(_) => Err(ChoiceFault::Memory),

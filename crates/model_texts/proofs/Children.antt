@@ -1,8 +1,8 @@
 -- Each child of a place stands in it.
-use Rattle.std.proofs.Common.{◌≡◌, Bool, true, false, cond, List, [], ◌∷◌, refl, sym, ap, ◌∙◌, ◌&&◌, map}
+use Rattle.std.proofs.Common.{◌≡◌, Bool, true, false, cond, List, [], ◌∷◌, refl, sym, ap, ◌∙◌, map}
 use Rattle.std.specs.Prelude.{Some, T}
 use Rattle.std.specs.declared.cmp.Ordering.{Ordering}
-use Rattle.std.specs.declared.cmp.Ordering.TheVariants.{Less, Equal, Greater}
+use Rattle.std.specs.declared.cmp.Ordering.TheVariants.{Greater}
 use Rattle.std.specs.Ordering.{is_lt, is_eq, ordering_reverse}
 use Rattle.std.specs.Cmp.{tied_itself}
 use Rattle.std.specs.List.{AllByRecursion, filter}
@@ -11,6 +11,7 @@ use Rattle.std.specs.FinMap.Entries.{below_all}
 use Rattle.finite_maps.specs.Sorts.{put_in, in_order, picked}
 use Rattle.finite_maps.proofs.EqualLaws.{text_equality, nat_equality, and_first, and_second}
 use Rattle.finite_maps.proofs.MapLaws.{IsKeyOrder}
+use Rattle.finite_maps.proofs.Truths.{first, second, is_less}
 use Rattle.model_state.specs.declared.entry.Entry.{Entry}
 use Rattle.model_state.specs.declared.step.Place.{Place}
 use Rattle.model_state.specs.declared.step.Place.TheVariants.{Root, Inside}
@@ -19,19 +20,6 @@ use Rattle.model_state.specs.Listing.{children, entry_cmp, rank_at}
 use Rattle.model_state.specs.State.{State, place_eq}
 use Rattle.model_state.proofs.Orders.{id_order}
 use Rattle.model_texts.specs.Tree.{child_ids}
-
-first : (a b : Bool) → T (a && b) → T a
-first true b p = tt
-first false b p = p
-
-second : (a b : Bool) → T (a && b) → T b
-second true b p = p
-second false b p = absurd p
-
-is_less : (o : Ordering) → T (is_lt o) → o ≡ Less
-is_less Less p = refl
-is_less Equal p = absurd p
-is_less Greater p = absurd p
 
 module _ {A : Type 0} where
   pub all_weaker : (P Q : A → Type 0) → ((x : A) → P x → Q x) → (xs : List A) → AllByRecursion P xs → AllByRecursion Q xs

@@ -1,28 +1,21 @@
 -- The lines of operations stay where the metamodel is extended: what they name has its name still.
-use Rattle.std.proofs.Common.{◌≡◌, ℕ, zero, suc, ◌<◌, nat_lt, true, List, [], ◌∷◌, ◌++◌, length, map, Option, None, Some, arith, refl, sym, ap, ◌∙◌, codes}
+use Rattle.std.proofs.Common.{◌≡◌, ℕ, zero, suc, ◌<◌, true, List, [], ◌∷◌, ◌++◌, length, map, Option, None, Some, arith, refl, sym, ap, ◌∙◌, codes}
 use Rattle.std.specs.Prelude.{slice_get}
 use Rattle.std.specs.List.{AllByRecursion}
 use Rattle.std.specs.Fmt.{decimal}
 use Rattle.std.specs.Option.{option_map_or}
-use Rattle.std.proofs.lemmas.Bool.Decides.{nat_tests}
 use Rattle.std.proofs.lemmas.List.Elements.{recursion_from_All}
-use Rattle.serde_json.specs.Data.{string}
 use Rattle.serde_json.specs.Written.{compact_text}
 use Rattle.ecore_meta.specs.Meta.{Meta}
-use Rattle.ecore_meta.specs.Typing.{fits, kind_of, literal_count, literal_text, text_in}
+use Rattle.ecore_meta.specs.Typing.{kind_of}
 use Rattle.ecore_meta.specs.declared.meta.Class.{Class}
-use Rattle.ecore_meta.specs.declared.meta.Enum.{Enum}
-use Rattle.ecore_meta.specs.declared.meta.EnumLiteral.{EnumLiteral}
 use Rattle.ecore_meta.specs.declared.meta.Feature.{Feature}
 use Rattle.ecore_meta.specs.declared.meta.Kind.{Kind}
 use Rattle.ecore_meta.specs.declared.meta.Kind.TheVariants.{Attr, AttrMany}
-use Rattle.ecore_meta.specs.declared.meta.Scalar.{Scalar}
-use Rattle.ecore_meta.specs.declared.meta.Scalar.TheVariants.{Literal as LiteralType}
 use Rattle.ecore_meta.specs.declared.meta.Value.{Value}
-use Rattle.ecore_meta.specs.declared.meta.Value.TheVariants.{Literal}
-use Rattle.emfjson_io.specs.Values.{data_of}
 use Rattle.growth_laws.specs.Growth.{Evolves}
 use Rattle.growth_laws.proofs.Kept.{Same, same_kind}
+use Rattle.growth_laws.proofs.Texts.{data_same}
 use Rattle.model_state.specs.Packages.{steps_of}
 use Rattle.model_state.specs.declared.operation.Operation.{Operation}
 use Rattle.model_state.specs.declared.step.Place.{Place}
@@ -52,37 +45,9 @@ module _ (o n : Meta) (evolves : Evolves o n) where
   feature_same : (f : ℕ) → IsFeature o f → feature_name n f ≡ feature_name o f
   feature_same f within = let s : Same o n f = same f within in ap (λ (x : Option Feature). option_map_or (λ feature. feature.name) x []) s.is
 
-  literal_same : (e k : ℕ) → nat_lt k (literal_count o e) ≡ true → literal_text n e k ≡ literal_text o e k
-  literal_same e k h =
-      elim (slice_get o.enums e) as (λ x. slice_get o.enums e ≡ x
-      → nat_lt k (length (option_map_or (λ (found : Enum). found.literals) x [])) ≡ true → literal_text n e k ≡ literal_text o e k) [
-        | None ↦ λ at g. absurd (none_below k g)
-        | Some x ↦ λ at g.
-            let more = evolves.preserves.enums e x at in
-            ap (λ (y : Option Enum). text_in (option_map_or (λ (found : Enum). found.literals) y []) k) more.2
-            ∙ ap (λ (ls : List EnumLiteral). text_in ls k) more.4
-            ∙ ap (λ (y : Option EnumLiteral). option_map_or (λ (l : EnumLiteral). l.text) y []) (get_left x.literals more.1 k g)
-            ∙ sym (ap (λ (y : Option Enum). text_in (option_map_or (λ (found : Enum). found.literals) y []) k) at)
-      ] refl h
-    where
-      none_below : (k : ℕ) → nat_lt k 0 ≡ true → ⊥
-      none_below k g = grind (arith, nat_tests)
-
-      less : (k m : ℕ) → nat_lt (suc k) (suc m) ≡ true → nat_lt k m ≡ true
-      less k m g = grind (arith, nat_tests)
-
-      get_left : (ls more : List EnumLiteral) (k : ℕ) → nat_lt k (length ls) ≡ true → slice_get (ls ++ more) k ≡ slice_get ls k
-      get_left [] more k g = absurd (none_below k g)
-      get_left (l ∷ ls) more zero g = refl
-      get_left (l ∷ ls) more (suc k) g = get_left ls more k (less k (length ls) g)
-
-  data_same : (s : Scalar) (v : Value) → fits o s v ≡ true → data_of n s v ≡ data_of o s v
-  data_same (LiteralType e) (Literal k) h = ap string (literal_same e k h)
-  data_same s v h = refl
-
   text_same : (k : Kind) (v : Value) → is_value o k v ≡ true → text_of n k v ≡ text_of o k v
-  text_same (Attr s default) v h = ap compact_text (data_same s v h)
-  text_same (AttrMany s unique) v h = ap compact_text (data_same s v h)
+  text_same (Attr s default) v h = ap compact_text (data_same o n evolves s v h)
+  text_same (AttrMany s unique) v h = ap compact_text (data_same o n evolves s v h)
   text_same k v h = refl
 
   value_same : (f : ℕ) (v : Value) → IsFeature o f → IsValue o f v → value_word n f v ≡ value_word o f v

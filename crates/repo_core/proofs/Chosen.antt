@@ -1,11 +1,11 @@
 -- What was answered to the choices of an update and of a merge.
-use Rattle.std.proofs.Common.{◌≡◌, ◌≢◌, ℕ, true, false, List, [], Option, None, Some, refl, sym, subst}
+use Rattle.std.proofs.Common.{◌≡◌, ◌≢◌, ℕ, true, false, List, [], Option, None, Some, refl, sym, ◌∙◌, ap, subst}
 use Rattle.std.specs.Prelude.{IfNone, IfSome, unwrap_or}
 use Rattle.std.specs.Fmt.{decimal}
 use Rattle.std.proofs.lemmas.Bool.{ne_eqb}
 use Rattle.ecore_meta.specs.Meta.{Meta}
 use Rattle.footprint.specs.declared.bucket.Bucket.{Bucket}
-use Rattle.history_tree.specs.History.{head}
+use Rattle.history_tree.specs.History.{History, head}
 use Rattle.history_tree.proofs.Heads.{same_number}
 use Rattle.merge_laws.specs.Choices.{are_choices}
 use Rattle.op_form.specs.declared.event.Event.TheVariants.{Merge, Update}
@@ -13,10 +13,11 @@ use Rattle.plain_repository.specs.Answers as plain
 use Rattle.plain_repository.specs.Answers.{told, with_room}
 use Rattle.plain_repository.specs.Choices.{chosen}
 use Rattle.plain_repository.specs.Events.{playable_with}
-use Rattle.plain_repository.specs.Merging.{decide_update, has_theirs, merge_of, update_buckets, update_to}
+use Rattle.plain_repository.specs.Merging.{decide_update, has_theirs, merge_buckets, merge_of, update_buckets, update_to}
 use Rattle.plain_repository.specs.State.{State, Workspace, is_open, workspace_of}
 use Rattle.repo_core.specs.Decisions.{CanMakeIt, seen}
 use Rattle.repo_core.specs.declared.deciding.answers.Decision.{Decision}
+use Rattle.repo_state.proofs.Merges.{plan_rows}
 
 pub merge_none : (s : State) (ws : ℕ) (w : Workspace) (branch : ℕ) (letters : List ℕ) (other : ℕ) → has_theirs s.history w other ≡ false
     → merge_of s ws w branch letters other ≡ told [] (decimal other)
@@ -39,6 +40,18 @@ pub passed_on : (o : Option Decision) (rows : List Bucket) (choices : Option (Li
     → IfNone o ((otherwise : plain.Decision) → chosen rows choices otherwise ≡ otherwise) → chosen rows choices x ≡ x
 passed_on o rows choices x is passed =
     subst (λ (y : Option Decision). IfNone y ((otherwise : plain.Decision) → chosen rows choices otherwise ≡ otherwise)) is passed x
+
+-- of a merge, by the buckets of a plan that was made of the branch's head
+pub merge_passed : (meta : Meta) (s : State) (g : History) (ws : ℕ) (w : Workspace) (branch other : ℕ) (rows : List Bucket) (choices : Option (List ℕ))
+    (o : Option Decision) → s.history ≡ g → other ≡ head g branch → rows ≡ merge_buckets meta g w other → o ≡ None
+    → IfNone o ((otherwise : plain.Decision) → chosen rows choices otherwise ≡ otherwise)
+    → chosen (merge_buckets meta s.history w (head s.history branch)) choices
+    (merge_of s ws w branch (unwrap_or choices []) (head s.history branch))
+    ≡ merge_of s ws w branch (unwrap_or choices []) (head s.history branch)
+merge_passed meta s g ws w branch other rows choices o same at rows_are is passed =
+    let answer = merge_of s ws w branch (unwrap_or choices []) (head s.history branch) in
+    ap (λ (l : List Bucket). chosen l choices answer) (sym (plan_rows meta s.history g w branch other rows same at rows_are))
+    ∙ passed_on o rows choices answer is passed
 
 pub passed_fit : (o : Option Decision) (rows : List Bucket) (choices : Option (List ℕ)) → o ≡ None
     → IfNone o (are_choices (unwrap_or choices []) rows ≡ true) → are_choices (unwrap_or choices []) rows ≡ true

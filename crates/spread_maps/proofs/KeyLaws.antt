@@ -1,5 +1,5 @@
 -- The keys of a map that is made of a look-up, in order.
-use Rattle.std.proofs.Common.{◌≡◌, ℕ, ◌+◌, Bool, true, false, cond, List, [], ◌∷◌, refl, sym, ap, ◌∙◌, arith, map, ◌||◌, ◌&&◌}
+use Rattle.std.proofs.Common.{◌≡◌, ℕ, ◌+◌, Bool, true, false, cond, List, [], ◌∷◌, refl, sym, ap, ◌∙◌, arith, map, ◌||◌}
 use Rattle.std.specs.Prelude.{Option, None, Some, is_some, T}
 use Rattle.std.specs.List.{AllByRecursion, IsDistinct, list_any}
 use Rattle.std.specs.declared.cmp.Ordering.{Ordering}
@@ -13,16 +13,9 @@ use Rattle.spread_maps.specs.Spread.{tabulate}
 use Rattle.finite_maps.proofs.MapLaws.{IsKeyOrder}
 use Rattle.finite_maps.proofs.CountLaws.{count-set, count_none}
 use Rattle.finite_maps.proofs.SortLaws.{Rises, rises-in_order, same_risen, tally-in_order, tally-map}
+use Rattle.finite_maps.proofs.Truths.{first, second}
 use Rattle.spread_maps.proofs.TabulateLaws.{get_listed}
 use Rattle.std.specs.FinMap.{get-empty}
-
-first : (a b : Bool) → T (a && b) → T a
-first true b p = tt
-first false b p = p
-
-second : (a b : Bool) → T (a && b) → T b
-second true b p = p
-second false b p = absurd p
 
 less_after : (o : Ordering) → T (is_lt o) → is_lt (ordering_reverse o) ≡ false
 less_after Less p = refl

@@ -1,36 +1,15 @@
 -- A finite map that holds a part of another, under keys of its own, has that part's entries.
-use Rattle.std.proofs.Common.{◌≡◌, Bool, true, false, cond, List, [], ◌∷◌, refl, sym, ap, subst, ◌∙◌, map, ◌&&◌}
+use Rattle.std.proofs.Common.{◌≡◌, Bool, true, false, cond, List, [], ◌∷◌, refl, sym, ap, subst, ◌∙◌, map}
 use Rattle.std.specs.Prelude.{Option, None, Some, T}
 use Rattle.std.specs.List.{filter}
 use Rattle.std.specs.declared.cmp.Ordering.{Ordering}
-use Rattle.std.specs.declared.cmp.Ordering.TheVariants.{Less, Equal, Greater}
-use Rattle.std.specs.Ordering.{eq_by_cmp, is_eq, is_lt}
+use Rattle.std.specs.declared.cmp.Ordering.TheVariants.{Less}
+use Rattle.std.specs.Ordering.{eq_by_cmp, is_lt}
 use Rattle.std.specs.FinMap.{FinMap, get, entries, from_sorted, entries_sorted, get-entries, get-from_sorted, entries-from_sorted, find, is_sorted}
 use Rattle.std.specs.FinMap.Entries.{below_all}
 use Rattle.finite_maps.proofs.Cases.{not_so, true_false}
 use Rattle.finite_maps.proofs.MapLaws.{IsKeyOrder, same, same_key, own_key}
-
-first : (a b : Bool) → T (a && b) → T a
-first true b p = tt
-first false b p = p
-
-second : (a b : Bool) → T (a && b) → T b
-second true b p = p
-second false b p = absurd p
-
-both : (a b : Bool) → T a → T b → T (a && b)
-both true b p q = q
-both false b p q = p
-
-is_less : (o : Ordering) → T (is_lt o) → o ≡ Less
-is_less Less p = refl
-is_less Equal p = absurd p
-is_less Greater p = absurd p
-
-find_below : {K X : Type 0} (R : K → K → Ordering) (q : K) (es : List (K × X)) → T (below_all R q es) → find R q es ≡ None
-find_below R q [] h = refl
-find_below R q (e ∷ es) h =
-    ap (λ r. cond (is_eq r) (Some e.1) (find R q es)) (is_less (R q e.0) (first _ _ h)) ∙ find_below R q es (second _ _ h)
+use Rattle.finite_maps.proofs.Truths.{first, second, both, is_less, find_below}
 
 -- what the part has at its key l, where the whole has this at the key there
 abbrev pub part : {K X L Y : Type 0} (p : K × X → Bool) (g : K × X → L × Y) (there : L → K) → L → Option X → Option Y

@@ -7,37 +7,19 @@ use Rattle.std.specs.FinMap.{get}
 use Rattle.finite_maps.specs.Equal.{text_eq}
 use Rattle.finite_maps.proofs.Cases.{not_so, true_false}
 use Rattle.finite_maps.proofs.EqualLaws.{text_equality, nat_equality, and_first, and_second, and_both}
-use Rattle.ecore_meta.specs.Meta.{Meta, has_feature}
-use Rattle.ecore_meta.specs.declared.meta.Kind.{Kind}
-use Rattle.ecore_meta.specs.declared.meta.Kind.TheVariants.{Attr, AttrMany, Bounded, Free, Contains, Container, Skip}
+use Rattle.ecore_meta.specs.Meta.{Meta}
 use Rattle.model_state.specs.declared.entry.Entry.{Entry}
 use Rattle.model_state.specs.Keys.{IdBytes, AttrKey, RowKey}
 use Rattle.model_state.specs.Listing.{targets}
 use Rattle.model_state.specs.State.{State, is_live}
-use Rattle.model_state.specs.Steps.{class_has, may_link}
-use Rattle.model_state.specs.Typing.{opposite_of, is_plain, kind_of, plain_to}
+use Rattle.model_state.specs.Typing.{opposite_of, is_plain}
 use Rattle.model_state.specs.Good.{Good, Sound, RowOk}
 use Rattle.edit_steps.specs.Rows.{Rows, is_row_or_mirror, is_mirror, unlinks}
 use Rattle.edit_steps.specs.Deletes.{is_touched, targets_left, outgoing_made, slots_of}
 use Rattle.edit_steps.proofs.Members.{In, Distinct, in_either, kept_in}
-use Rattle.edit_steps.proofs.Slots.{slot_in, touched_by}
+use Rattle.edit_steps.proofs.Slots.{slot_in, source_plain, touched_by}
 use Rattle.edit_steps.proofs.Children.{feature_listed}
 use Rattle.state_steps.specs.Whole.{is_less, leads, links_of, unlinked}
-
-plain_some : (meta : Meta) (k : Kind) (d : ℕ) → plain_to meta k d ≡ true → is_plain k ≡ true
-plain_some meta (Bounded t o) d h = refl
-plain_some meta (Free t o) d h = refl
-plain_some meta (Attr s v) d h = cc
-plain_some meta (AttrMany s u) d h = cc
-plain_some meta (Contains t o) d h = cc
-plain_some meta (Container t o) d h = cc
-plain_some meta Skip d h = cc
-
-source_plain : (meta : Meta) (c : Option ℕ) (f : ℕ) (d : Option ℕ) → may_link meta c f d ≡ true
-    → (class_has meta c f ≡ true) × (is_plain (kind_of meta f) ≡ true)
-source_plain meta None f d h = cc
-source_plain meta (Some c) f None h = cc
-source_plain meta (Some c) f (Some d) h = (and_first _ _ h, plain_some meta (kind_of meta f) d (and_second (has_feature meta c f) _ h))
 
 abbrev pub AllLead : Meta → List AttrKey → Type 0
 AllLead meta [] = Unit {0}

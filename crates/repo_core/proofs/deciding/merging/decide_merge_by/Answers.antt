@@ -14,7 +14,7 @@ use Rattle.plain_repository.specs.Merging.{merge_of}
 use Rattle.repo_core.specs.Decisions.{seen}
 use Rattle.repo_state.specs.Keeping.{plain_of}
 use Rattle.repo_state.proofs.Merges.{merge_could, nothing_left, plan_rows, plan_theirs, something_left}
-use Rattle.repo_core.proofs.Chosen.{merge_none, merge_some, passed_fit, passed_on, refused_made, refused_seen}
+use Rattle.repo_core.proofs.Chosen.{merge_none, merge_passed, merge_some, passed_fit, refused_made, refused_seen}
 use Rattle.repo_core.proofs.deciding.merging.decide_merge_by.Goals as goal
 
 pub returns-in-Some-clause-decision : goal.returns-in-Some-clause-decision
@@ -36,16 +36,13 @@ returns-in-Some-clause-made c = refused_made c.in_ok-refused.field-0 c.in-Some.r
 pub returns-then-len-eq0-clause-decision : goal.returns-then-len-eq0-clause-decision
 returns-then-len-eq0-clause-decision c =
     let s = c.args.repo.now in
-    let meta = c.args._begun.now.meta in
     let g = c.args._begun.now.history.history in
     let w = plain_of c.args._workspace.now in
     let branch = c.args.branch in
     let plan = c.args.plan.now in
-    let rows = plan_rows meta s.history g w branch c.args.other plan.buckets.rows c.requires.history c.requires.at c.requires.plan.buckets in
     let theirs = plan_theirs s.history g w branch c.args.other plan.theirs c.requires.history c.requires.at c.requires.plan.theirs in
-    let answer = merge_of s c.args.ws w branch (unwrap_or c.args.choices.now []) (head s.history branch) in
-    let passed = ap (λ (l : List Bucket). chosen l c.args.choices.now answer) (sym rows)
-    ∙ passed_on c.in_ok-refused.field-0 plan.buckets.rows c.args.choices.now answer c.in_default.is c.in_ok-refused.ensures.passed in
+    let passed = merge_passed c.args._begun.now.meta s g c.args.ws w branch c.args.other plan.buckets.rows c.args.choices.now c.in_ok-refused.field-0
+    c.requires.history c.requires.at c.requires.plan.buckets c.in_default.is c.in_ok-refused.ensures.passed in
     let at = c.requires.at ∙ ap (λ (h : History). head h branch) (sym c.requires.history) in
     let none = nothing_left s.history w (head s.history branch) plan.theirs theirs (sym c.len.ensures ∙ c.if-len-eq0.true) in
     subst (λ (y : plain.Decision). IfOk c.tell_number.result (λ d. seen d ≡ y))
@@ -75,16 +72,13 @@ with_number-requires c =
 pub returns-clause-decision : goal.returns-clause-decision
 returns-clause-decision c =
     let s = c.args.repo.now in
-    let meta = c.args._begun.now.meta in
     let g = c.args._begun.now.history.history in
     let w = plain_of c.args._workspace.now in
     let branch = c.args.branch in
     let plan = c.args.plan.now in
-    let rows = plan_rows meta s.history g w branch c.args.other plan.buckets.rows c.requires.history c.requires.at c.requires.plan.buckets in
     let theirs = plan_theirs s.history g w branch c.args.other plan.theirs c.requires.history c.requires.at c.requires.plan.theirs in
-    let answer = merge_of s c.args.ws w branch (unwrap_or c.args.choices.now []) (head s.history branch) in
-    let passed = ap (λ (l : List Bucket). chosen l c.args.choices.now answer) (sym rows)
-    ∙ passed_on c.in_ok-refused.field-0 plan.buckets.rows c.args.choices.now answer c.in_default.is c.in_ok-refused.ensures.passed in
+    let passed = merge_passed c.args._begun.now.meta s g c.args.ws w branch c.args.other plan.buckets.rows c.args.choices.now c.in_ok-refused.field-0
+    c.requires.history c.requires.at c.requires.plan.buckets c.in_default.is c.in_ok-refused.ensures.passed in
     let at = c.requires.at ∙ ap (λ (h : History). head h branch) (sym c.requires.history) in
     let some = something_left s.history w (head s.history branch) plan.theirs theirs (λ none. c.if-len-eq0.false (c.len.ensures ∙ none)) in
     let event = Merge c.args.ws branch c.in_ok-choices.choices in
