@@ -9,7 +9,7 @@ use Rattle.std.proofs.lemmas.List.Sums.{passes_at_first, split_at_first}
 use Rattle.std.proofs.Math.Seq.{take-append_seam, drop-append-add}
 use Rattle.finite_maps.proofs.EqualLaws.{text_equality, and_first, and_second}
 use Rattle.model_state.specs.Names.{is_name, is_name_byte, most_name_rest}
-use Rattle.script_lang.specs.Words.{is_word}
+use Rattle.finite_maps.specs.Equal.{text_eq}
 use Rattle.access_rules.specs.declared.policy.Role.{Role}
 use Rattle.access_rules.specs.declared.policy.Role.TheVariants.{Reader, Writer, Admin}
 use Rattle.access_rules.specs.declared.policy.Grant.{Grant}
@@ -153,9 +153,9 @@ abbrev Spells : List ℕ → Role → Type 0
 Spells word role = (word ≡ role_word role) × IsRole role
 
 writer_back : (word : List ℕ) (role : Role) → writer_of (before_first is_at_sign word) (after_first is_at_sign word) ≡ Some role → Spells word role
-writer_back word role is = by (is_word (before_first is_at_sign word) (codes "writer")) refl (is_name (after_first is_at_sign word)) refl is
+writer_back word role is = by (text_eq (before_first is_at_sign word) (codes "writer")) refl (is_name (after_first is_at_sign word)) refl is
   where
-    by : (a : Bool) → is_word (before_first is_at_sign word) (codes "writer") ≡ a → (b : Bool) → is_name (after_first is_at_sign word) ≡ b
+    by : (a : Bool) → text_eq (before_first is_at_sign word) (codes "writer") ≡ a → (b : Bool) → is_name (after_first is_at_sign word) ≡ b
         → cond a (cond b (Some (Writer (Some (after_first is_at_sign word)))) None) None ≡ Some role → Spells word role
     by false first b named is = absurd cc
     by true first false named is = absurd cc
@@ -167,9 +167,9 @@ writer_back word role is = by (is_word (before_first is_at_sign word) (codes "wr
         subst (λ r. Spells word r) same (cut ∙ ap (λ (l : List ℕ). l ++ 64 ∷ after_first is_at_sign word) front, named)
 
 role_back : (word : List ℕ) (role : Role) → role_of word ≡ Some role → Spells word role
-role_back word role is = by (is_word word (codes "reader")) refl (is_word word (codes "writer")) refl (is_word word (codes "admin")) refl is
+role_back word role is = by (text_eq word (codes "reader")) refl (text_eq word (codes "writer")) refl (text_eq word (codes "admin")) refl is
   where
-    by : (a : Bool) → is_word word (codes "reader") ≡ a → (b : Bool) → is_word word (codes "writer") ≡ b → (c : Bool) → is_word word (codes "admin") ≡ c
+    by : (a : Bool) → text_eq word (codes "reader") ≡ a → (b : Bool) → text_eq word (codes "writer") ≡ b → (c : Bool) → text_eq word (codes "admin") ≡ c
         → cond a (Some Reader)
         (cond b (Some (Writer None)) (cond c (Some Admin) (writer_of (before_first is_at_sign word) (after_first is_at_sign word)))) ≡ Some role
         → Spells word role

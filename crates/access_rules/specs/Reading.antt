@@ -3,7 +3,7 @@ use Rattle.std.specs.Prelude.{String, ◌≡◌, ℕ, ◌+◌, ◌==◌, Bool, L
 use Rattle.std.specs.BTreeSet.{BTreeSet, contains_text}
 use Rattle.std.specs.List.{list_any, before_first, after_first}
 use Rattle.model_state.specs.Names.{is_name}
-use Rattle.script_lang.specs.Words.{is_word}
+use Rattle.finite_maps.specs.Equal.{text_eq}
 use Rattle.access_rules.specs.declared.policy.Role.{Role}
 use Rattle.access_rules.specs.declared.policy.Role.TheVariants.{Reader, Writer, Admin}
 use Rattle.access_rules.specs.declared.policy.Grant.{Grant}
@@ -35,14 +35,14 @@ pieces (b ∷ bs) = if is_comma b then [] ∷ pieces bs else before b (pieces bs
 
 -- `writer@` and a branch's name
 abbrev pub writer_of : List ℕ → List ℕ → Option Role
-writer_of first branch = if is_word first (codes "writer") then (if is_name branch then Some (Writer (Some branch)) else None) else None
+writer_of first branch = if text_eq first (codes "writer") then (if is_name branch then Some (Writer (Some branch)) else None) else None
 
 -- `reader`, `writer`, `admin`, or a writer of one branch
 abbrev pub role_of : List ℕ → Option Role
 role_of word =
-    if is_word word (codes "reader") then Some Reader
-    else if is_word word (codes "writer") then Some (Writer None)
-    else if is_word word (codes "admin") then Some Admin
+    if text_eq word (codes "reader") then Some Reader
+    else if text_eq word (codes "writer") then Some (Writer None)
+    else if text_eq word (codes "admin") then Some Admin
     else writer_of (before_first is_at_sign word) (after_first is_at_sign word)
 
 -- the grant of a role to a user, whose name is of the form
@@ -56,7 +56,7 @@ grant_of piece = granted (before_first is_colon piece) (role_of (after_first is_
 
 -- has the user a grant
 abbrev pub has_user : List Grant → List ℕ → Bool
-has_user grants user = list_any (λ g. is_word g.user user) grants
+has_user grants user = list_any (λ g. text_eq g.user user) grants
 
 -- the set has the users of the grants, and no others
 abbrev pub HasUsers : {Y : Type 0} → BTreeSet (String Y) → List Grant → Type 0

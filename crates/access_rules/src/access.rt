@@ -3,7 +3,7 @@ ghost use Rattle.std.specs.Prelude.{◌≡◌, Some};
 ghost use Rattle.std.specs.Option.{option_copied};
 ghost use Rattle.access_rules.specs.Rule.{role_in, rule_of, rule, denied};
 
-use crate::{Kind, Policy, Role, kind_of};
+use crate::{CommandKind, Policy, Role, command_kind};
 use script_lang::Command;
 
 /// Whether a user may give a command.
@@ -36,16 +36,16 @@ fn role_in<'a>(policy: &'a Policy, user: &str) -> Option<&'a Role>
 }
 
 /// The first rule that is against a command of that kind, by the user's role.
-fn judge(role: &Role, kind: Kind, branch: Option<&str>) -> Access
+fn judge(role: &Role, kind: CommandKind, branch: Option<&str>) -> Access
     ensures { denied result ≡ rule_of (Some role.now) kind (option_copied branch.entry) }
 {
     match (role, kind) {
         (Role::Admin, _) => Access::Pass,
-        (_, Kind::Keeps) => Access::Denied { rule: 3 },
-        (_, Kind::Looks) => Access::Pass,
-        (Role::Reader, Kind::Works) => Access::Denied { rule: 2 },
-        (Role::Writer { branch: None }, Kind::Works) => Access::Pass,
-        (Role::Writer { branch: Some(own) }, Kind::Works) => match branch {
+        (_, CommandKind::Keeps) => Access::Denied { rule: 3 },
+        (_, CommandKind::Looks) => Access::Pass,
+        (Role::Reader, CommandKind::Works) => Access::Denied { rule: 2 },
+        (Role::Writer { branch: None }, CommandKind::Works) => Access::Pass,
+        (Role::Writer { branch: Some(own) }, CommandKind::Works) => match branch {
             Some(branch) if own.as_str() != branch => Access::Denied { rule: 4 },
             _ => Access::Pass,
         },
@@ -60,6 +60,6 @@ pub fn check(policy: &Policy, user: &str, command: &Command, branch: Option<&str
 {
     match role_in(policy, user) {
         None => Access::Denied { rule: 0 },
-        Some(role) => judge(role, kind_of(command), branch),
+        Some(role) => judge(role, command_kind(command), branch),
     }
 }

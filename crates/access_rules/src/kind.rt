@@ -1,12 +1,12 @@
 //! What each command is for, and the workspace that it names. A further command has its row in both tables.
 ghost use Rattle.std.specs.Prelude.{◌≡◌};
-ghost use Rattle.access_rules.specs.Rule.{kind_of, workspace_in};
+ghost use Rattle.access_rules.specs.Rule.{command_kind, workspace_in};
 
 use script_lang::Command;
 
 /// What a command is for.
 #[derive(Clone, Copy, Drop)]
-pub enum Kind {
+pub enum CommandKind {
     /// It shows something, or opens a workspace.
     Looks,
     /// It changes a workspace, or makes a version or a branch of it.
@@ -16,37 +16,37 @@ pub enum Kind {
 }
 
 /// What kind of a command it is.
-pub fn kind_of(command: &Command) -> Kind
-    ensures { result ≡ kind_of command.now }
+pub fn command_kind(command: &Command) -> CommandKind
+    ensures { result ≡ command_kind command.now }
 {
     match command {
-        Command::Init => Kind::Keeps,
-        Command::Evolve => Kind::Keeps,
-        Command::Import { .. } => Kind::Works,
-        Command::Load { .. } => Kind::Works,
-        Command::Checkout { .. } => Kind::Looks,
-        Command::Edit { .. } => Kind::Works,
-        Command::Begin { .. } => Kind::Works,
-        Command::End { .. } => Kind::Works,
-        Command::Undo { .. } => Kind::Works,
-        Command::Discard { .. } => Kind::Works,
-        Command::Tidy { .. } => Kind::Works,
-        Command::Apply { .. } => Kind::Works,
-        Command::Changes { .. } => Kind::Looks,
-        Command::Show { .. } => Kind::Looks,
-        Command::Cat { .. } => Kind::Looks,
-        Command::Validate { .. } => Kind::Looks,
-        Command::Commit { .. } => Kind::Works,
-        Command::Signed { .. } => Kind::Works,
-        Command::Branch { .. } => Kind::Works,
-        Command::Tag { .. } => Kind::Keeps,
-        Command::Log => Kind::Looks,
-        Command::Package { .. } => Kind::Looks,
-        Command::Update { .. } => Kind::Works,
-        Command::Merge { .. } => Kind::Works,
-        Command::Revert { .. } => Kind::Works,
-        Command::Drop { .. } => Kind::Works,
-        Command::Upgrade => Kind::Keeps,
+        Command::Init => CommandKind::Keeps,
+        Command::Evolve => CommandKind::Keeps,
+        Command::Import { .. } => CommandKind::Works,
+        Command::Load { .. } => CommandKind::Works,
+        Command::Checkout { .. } => CommandKind::Looks,
+        Command::Edit { .. } => CommandKind::Works,
+        Command::Begin { .. } => CommandKind::Works,
+        Command::End { .. } => CommandKind::Works,
+        Command::Undo { .. } => CommandKind::Works,
+        Command::Discard { .. } => CommandKind::Works,
+        Command::Tidy { .. } => CommandKind::Works,
+        Command::Apply { .. } => CommandKind::Works,
+        Command::Changes { .. } => CommandKind::Looks,
+        Command::Show { .. } => CommandKind::Looks,
+        Command::Cat { .. } => CommandKind::Looks,
+        Command::Validate { .. } => CommandKind::Looks,
+        Command::Commit { .. } => CommandKind::Works,
+        Command::Signed { .. } => CommandKind::Works,
+        Command::Branch { .. } => CommandKind::Works,
+        Command::Tag { .. } => CommandKind::Keeps,
+        Command::Log => CommandKind::Looks,
+        Command::Package { .. } => CommandKind::Looks,
+        Command::Update { .. } => CommandKind::Works,
+        Command::Merge { .. } => CommandKind::Works,
+        Command::Revert { .. } => CommandKind::Works,
+        Command::Drop { .. } => CommandKind::Works,
+        Command::Upgrade => CommandKind::Keeps,
     }
 }
 

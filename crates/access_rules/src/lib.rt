@@ -11,7 +11,7 @@ mod reading;
 
 pub use access::{Access, check};
 pub use fault::PolicyFault;
-pub use kind::{Kind, kind_of, workspace_in};
+pub use kind::{CommandKind, command_kind, workspace_in};
 pub use laws::law_of_policies;
 pub use policy::{Grant, Policy, Role};
 pub use reading::read_policy;

@@ -1,7 +1,7 @@
 //! Reading a policy from a text.
 ghost use Rattle.std.specs.Prelude.{◌≡◌, ◌<◌, ◌^◌, ◌||◌, ◌++◌, ◌∷◌, [], ℕ, List, length, not, IfOk, IfSome, OnOk};
 ghost use Rattle.std.specs.BTreeSet.{contains_text};
-ghost use Rattle.script_lang.specs.Words.{is_word};
+ghost use Rattle.finite_maps.specs.Equal.{text_eq};
 ghost use Rattle.access_rules.specs.declared.policy.Grant.{Grant};
 ghost use Rattle.access_rules.specs.Reading.{role_of, writer_of, grant_of, if_new, grants_of, GivesPolicy, HasUsers};
 
@@ -61,7 +61,7 @@ fn grant_of(alloc: Global, piece: &str) -> Result<Option<Grant>, AllocError>
 /// Puts the user into the set, and says whether it is new there.
 fn enter(alloc: Global, user: &str, users: &mut BTreeSet<String>) -> Result<bool, AllocError>
     ensures new { IfOk result (λ new. new ≡ not (contains_text users.old user.now)) }
-    ensures users { OnOk result ((name : List ℕ) → contains_text users.new name ≡ is_word user.now name || contains_text users.old name) }
+    ensures users { OnOk result ((name : List ℕ) → contains_text users.new name ≡ text_eq user.now name || contains_text users.old name) }
 {
     let user = String::from_str(alloc, user)?;
     Ok(users.insert(user)?)

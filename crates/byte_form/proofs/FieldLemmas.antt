@@ -75,7 +75,7 @@ wide64 = record {
 
 pub byte_again : IsReadAgain (IsBelow 256) byte_encoding byte_at
 unfolding byte_at
-byte_again n is rest place = refl
+byte_again n is rest offset = refl
 
 -- the same of what is equal
 pub stands : {X : Type 0} (Is : X → Type 0) (form : X → List ℕ) (before made after : Rest) (y x : X) → ◌≡◌ {A = X × Rest} (y, made) (x, after)
@@ -84,18 +84,18 @@ stands Is form before made after y x pair s = subst (λ p. StoodThere Is form be
 
 pub byte_spelled : IsSpelledSo (IsBelow 256) byte_encoding byte_at
 unfolding byte_at
-byte_spelled before bytes x after e = by before.bytes before.place bytes e
+byte_spelled before bytes x after e = by before.bytes before.offset bytes e
   where
-    by : (bs : List ℕ) (place : ℕ) → AreBytes bs → byte_from place bs ≡ Ok (x, after) → StoodThere (IsBelow 256) byte_encoding (at bs place) after x
-    by [] place bytes e = cc
-    by (b ∷ bs) place bytes e =
-        stands (IsBelow 256) byte_encoding (at (b ∷ bs) place) (at bs (place + 1)) after b x (ok_is (b, at bs (place + 1)) (x, after) e)
-        (record { is = bytes 0; bytes = refl; place = refl })
+    by : (bs : List ℕ) (offset : ℕ) → AreBytes bs → byte_from offset bs ≡ Ok (x, after) → StoodThere (IsBelow 256) byte_encoding (at bs offset) after x
+    by [] offset bytes e = cc
+    by (b ∷ bs) offset bytes e =
+        stands (IsBelow 256) byte_encoding (at (b ∷ bs) offset) (at bs (offset + 1)) after b x (ok_is (b, at bs (offset + 1)) (x, after) e)
+        (record { is = bytes 0; bytes = refl; offset = refl })
 
 module _ (w : Width) (limit : ℕ) (wide : IsWide w limit) where
   pub number_again : IsReadAgain (IsBelow limit) (to_be_bytes w) (number_at w)
   unfolding number_at
-  number_again n lt rest place =
+  number_again n lt rest offset =
       let len = wide.len n in
       let long : nat_lt (length (to_be_bytes w n ++ rest)) (byte_len w) ≡ false = le-ltb _ _ (omega (arith, length-append (to_be_bytes w n) rest)) in
       rw (long, take_at (to_be_bytes w n) rest (byte_len w) len, drop_at (to_be_bytes w n) rest (byte_len w) len, wide.again n lt, len) refl
@@ -103,7 +103,7 @@ module _ (w : Width) (limit : ℕ) (wide : IsWide w limit) where
   pub number_spelled : IsSpelledSo (IsBelow limit) (to_be_bytes w) (number_at w)
   unfolding number_at
   number_spelled before bytes n after e =
-      let k = not_fault (nat_lt (length before.bytes) (byte_len w)) (Short before.place) _ (n, after) e in
+      let k = not_fault (nat_lt (length before.bytes) (byte_len w)) (Short before.offset) _ (n, after) e in
       let long = not_less (length before.bytes) (byte_len w) k.0 in
       let pair = ok_is (from_be_bytes w (take (byte_len w) before.bytes), past before (byte_len w)) (n, after) k.1 in
       let front = take (byte_len w) before.bytes in
@@ -114,7 +114,7 @@ module _ (w : Width) (limit : ℕ) (wide : IsWide w limit) where
       (record {
         is = wide.below front len of_bytes;
         bytes = sym (take-append-drop (byte_len w) before.bytes) ∙ ap (λ bs. bs ++ drop (byte_len w) before.bytes) (sym again);
-        place = ap (λ k. before.place + k) (sym (ap length again ∙ len));
+        offset = ap (λ k. before.offset + k) (sym (ap length again ∙ len));
       })
 
 pub u32_again : IsReadAgain (IsBelow (2 ^ 32)) u32_encoding (number_at w32)
@@ -135,11 +135,11 @@ u64_spelled = number_spelled w64 (2 ^ 64) wide64
 
 pub text_again : IsReadAgain IsShortText text_encoding text_at
 unfolding text_at text_encoding u32_encoding
-text_again text is rest place =
+text_again text is rest offset =
     let long : nat_lt (length (text ++ rest)) (length text) ≡ false = le-ltb _ _ (omega (arith, length-append text rest)) in
     let utf8 : is_utf8 text ≡ true = is_utf8-from_IsUtf8 text is.1 in
     rw (
-      number_again w32 (2 ^ 32) wide32 (length text) is.0 (text ++ rest) place,
+      number_again w32 (2 ^ 32) wide32 (length text) is.0 (text ++ rest) offset,
       long,
       take_at text rest (length text) refl,
       drop_at text rest (length text) refl,
@@ -151,18 +151,18 @@ pub text_spelled : IsSpelledSo IsShortText text_encoding text_at
 unfolding text_at text_encoding u32_encoding
 text_spelled before bytes text after e =
     let k = reached (number_at w32 before)
-    (λ n. cond (nat_lt (length n.1.bytes) n.0) (Err (Short before.place))
-    (cond (is_utf8 (take n.0 n.1.bytes)) (Ok (take n.0 n.1.bytes, past n.1 n.0)) (Err (BadText before.place)))) (text, after) e in
+    (λ n. cond (nat_lt (length n.1.bytes) n.0) (Err (Short before.offset))
+    (cond (is_utf8 (take n.0 n.1.bytes)) (Ok (take n.0 n.1.bytes, past n.1 n.0)) (Err (BadText before.offset)))) (text, after) e in
     let n = k.0.0 in
     let rest = k.0.1 in
     let s = number_spelled w32 (2 ^ 32) wide32 before bytes n rest k.1 in
-    let l = not_fault (nat_lt (length rest.bytes) n) (Short before.place) _ (text, after) k.2 in
-    let u = is_chosen (is_utf8 (take n rest.bytes)) (BadText before.place) (take n rest.bytes, past rest n) (text, after) l.1 in
+    let l = not_fault (nat_lt (length rest.bytes) n) (Short before.offset) _ (text, after) k.2 in
+    let u = is_chosen (is_utf8 (take n rest.bytes)) (BadText before.offset) (take n rest.bytes, past rest n) (text, after) l.1 in
     let len : length (take n rest.bytes) ≡ n = length-take-le n rest.bytes (not_less (length rest.bytes) n l.0) in
     stands IsShortText text_encoding before (past rest n) after (take n rest.bytes) text u.1
     (record {
       is = (omega (arith, len, s.is), IsUtf8-from_is_utf8 (take n rest.bytes) u.0);
       bytes = s.bytes ∙ ap (λ bs. to_be_bytes w32 n ++ bs) (sym (take-append-drop n rest.bytes))
           ∙ ap (λ m. to_be_bytes w32 m ++ (take n rest.bytes ++ drop n rest.bytes)) (sym len);
-      place = omega (arith, s.place, len);
+      offset = omega (arith, s.offset, len);
     })

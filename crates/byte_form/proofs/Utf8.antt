@@ -13,22 +13,22 @@ is_utf8_not bs none = false_from_ne_true (is_utf8 bs) (λ e. none (IsUtf8-from_i
 pub ruleset utf8_tests = (is_utf8-from_IsUtf8, is_utf8_not)
 
 -- what a text field is, by its parts
-pub text_is : (bytes : List ℕ) (place n : ℕ) → 4 ≤ length bytes → from_be_bytes w32 (take 4 bytes) ≡ n → n ≤ length (drop 4 bytes)
+pub text_is : (bytes : List ℕ) (offset n : ℕ) → 4 ≤ length bytes → from_be_bytes w32 (take 4 bytes) ≡ n → n ≤ length (drop 4 bytes)
     → is_utf8 (take n (drop 4 bytes)) ≡ true
-    → text_at (record { bytes = bytes; place = place }) ≡ Ok (take n (drop 4 bytes), past (record { bytes = bytes; place = place }) (n + 4))
+    → text_at (record { bytes = bytes; offset = offset }) ≡ Ok (take n (drop 4 bytes), past (record { bytes = bytes; offset = offset }) (n + 4))
 unfolding text_at number_at
-text_is bytes place n long is fits utf8 =
+text_is bytes offset n long is fits utf8 =
     let l : nat_lt (length bytes) 4 ≡ false = grind arith in
     let f : nat_lt (length (drop 4 bytes)) n ≡ false = grind arith in
     let d : drop n (drop 4 bytes) ≡ drop (n + 4) bytes = grind (arith, common_steps) in
-    let p : (place + 4) + n ≡ place + (n + 4) = omega arith in
+    let p : (offset + 4) + n ≡ offset + (n + 4) = omega arith in
     rw (l, is, f, utf8, d, p) refl
 
-pub text_is_not : (bytes : List ℕ) (place n : ℕ) → 4 ≤ length bytes → from_be_bytes w32 (take 4 bytes) ≡ n → n ≤ length (drop 4 bytes)
+pub text_is_not : (bytes : List ℕ) (offset n : ℕ) → 4 ≤ length bytes → from_be_bytes w32 (take 4 bytes) ≡ n → n ≤ length (drop 4 bytes)
     → is_utf8 (take n (drop 4 bytes)) ≡ false
-    → text_at (record { bytes = bytes; place = place }) ≡ Err (BadText place)
+    → text_at (record { bytes = bytes; offset = offset }) ≡ Err (BadText offset)
 unfolding text_at number_at
-text_is_not bytes place n long is fits utf8 =
+text_is_not bytes offset n long is fits utf8 =
     let l : nat_lt (length bytes) 4 ≡ false = grind arith in
     let f : nat_lt (length (drop 4 bytes)) n ≡ false = grind arith in
     rw (l, is, f, utf8) refl

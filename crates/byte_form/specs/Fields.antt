@@ -26,32 +26,32 @@ text_encoding text = u32_encoding (length text) ++ text
 
 -- what is left after so many bytes
 abbrev pub past : Rest → ℕ → Rest
-past r n = record { bytes = drop n r.bytes; place = r.place + n }
+past r n = record { bytes = drop n r.bytes; offset = r.offset + n }
 
 -- the first of the bytes that begin at an offset, and what is left after it
 abbrev pub byte_from : ℕ → List ℕ → Result (ℕ × Rest) ReadFault
-byte_from place [] = Err (Short place)
-byte_from place (b ∷ bytes) = Ok (b, record { bytes = bytes; place = place + 1 })
+byte_from offset [] = Err (Short offset)
+byte_from offset (b ∷ bytes) = Ok (b, record { bytes = bytes; offset = offset + 1 })
 
 -- the first byte
 unfoldable pub byte_at : Rest → Result (ℕ × Rest) ReadFault
-byte_at r = byte_from r.place r.bytes
+byte_at r = byte_from r.offset r.bytes
 
 -- the number that the first bytes are, the most significant first
 unfoldable pub number_at : Width → Rest → Result (ℕ × Rest) ReadFault
-number_at w r = if nat_lt (length r.bytes) (byte_len w) then Err (Short r.place) else Ok (from_be_bytes w (take (byte_len w) r.bytes), past r (byte_len w))
+number_at w r = if nat_lt (length r.bytes) (byte_len w) then Err (Short r.offset) else Ok (from_be_bytes w (take (byte_len w) r.bytes), past r (byte_len w))
 
 -- first a count, and then as many bytes, which are text
 unfoldable pub text_at : Rest → Result (List ℕ × Rest) ReadFault
 text_at r = do
   n ← number_at w32 r
-  if nat_lt (length n.1.bytes) n.0 then Err (Short r.place)
+  if nat_lt (length n.1.bytes) n.0 then Err (Short r.offset)
       else if is_utf8 (take n.0 n.1.bytes) then Ok (take n.0 n.1.bytes, past n.1 n.0)
-      else Err (BadText r.place)
+      else Err (BadText r.offset)
 
 -- nothing is left
 abbrev pub ends_at : Rest → Result (Unit {0}) ReadFault
-ends_at r = if nat_lt 0 (length r.bytes) then Err (Spare r.place) else Ok tt
+ends_at r = if nat_lt 0 (length r.bytes) then Err (Spare r.offset) else Ok tt
 
 -- a call gave what reading gives, and stands after it; after a fault it stands where it stood
 abbrev pub Reads : {X Y : Type 0} → (X → Y) → Rest → Rest → Result X ReadFault → Result (Y × Rest) ReadFault → Type 0

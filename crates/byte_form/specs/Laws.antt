@@ -5,17 +5,17 @@ use Rattle.byte_form.specs.Rest.{Rest}
 
 -- what is left at an offset
 abbrev pub at : List ℕ → ℕ → Rest
-at bytes place = record { bytes = bytes; place = place }
+at bytes offset = record { bytes = bytes; offset = offset }
 
 -- the encoding of each value of the kind is read as the value, whatever stands after it
 abbrev pub IsReadAgain : {X E : Type 0} → (X → Type 0) → (X → List ℕ) → (Rest → Result (X × Rest) E) → Type 0
-IsReadAgain Is form read = (x : _) → Is x → (rest : List ℕ) (place : ℕ) → read (at (form x ++ rest) place) ≡ Ok (x, at rest (place + length (form x)))
+IsReadAgain Is form read = (x : _) → Is x → (rest : List ℕ) (offset : ℕ) → read (at (form x ++ rest) offset) ≡ Ok (x, at rest (offset + length (form x)))
 
 -- the bytes began with the encoding of a value of the kind
 pub record StoodThere {X : Type 0} (Is : X → Type 0) (form : X → List ℕ) (before after : Rest) (x : X) : Type 0 where
   pub is : Is x
   pub bytes : before.bytes ≡ form x ++ after.bytes
-  pub place : after.place ≡ before.place + length (form x)
+  pub offset : after.offset ≡ before.offset + length (form x)
 
 -- bytes are numbers below 256
 abbrev pub AreBytes : List ℕ → Type 0

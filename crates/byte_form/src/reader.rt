@@ -37,7 +37,7 @@ impl<'a> Model for Reader<'a> {
 
     ghost Value = { Rest };
 
-    ghost view = { λ r. record { bytes = drop r.at r.bytes.now; place = r.at } };
+    ghost view = { λ r. record { bytes = drop r.at r.bytes.now; offset = r.at } };
 
     ghost invariant = { λ r. r.at ≤ length r.bytes.now };
 }
@@ -46,14 +46,14 @@ impl<'a> Reader<'a> {
     /// A reader at the first of the bytes.
     pub fn new(bytes: &'a [u8]) -> Reader<'a>
         ensures bytes { result.bytes ≡ bytes.now }
-        ensures place { result.place ≡ 0 }
+        ensures offset { result.offset ≡ 0 }
     {
         Reader { bytes, at: 0 }
     }
 
     /// The number of bytes read.
-    pub fn place(&self) -> u64
-        ensures place { result ≡ self.now.place }
+    pub fn offset(&self) -> u64
+        ensures offset { result ≡ self.now.offset }
     {
         self.at as u64
     }
@@ -136,8 +136,8 @@ impl<'a> Reader<'a> {
 #[tactic(auto, unfolding(crate::specs::Fields::number_at))]
 fn long_field(rest: &[u8], at: u64) -> Result<(u64, usize), ReadFault>
     ensures field { MatchResult result
-        (λ x. number_at w64 (record { bytes = rest.now; place = at }) ≡ Ok (x.0, past (record { bytes = rest.now; place = at }) x.1))
-        (λ e. number_at w64 (record { bytes = rest.now; place = at }) ≡ Err e) }
+        (λ x. number_at w64 (record { bytes = rest.now; offset = at }) ≡ Ok (x.0, past (record { bytes = rest.now; offset = at }) x.1))
+        (λ e. number_at w64 (record { bytes = rest.now; offset = at }) ≡ Err e) }
     ensures within { IfOk result (λ x. x.1 ≤ length rest.now) }
     ensures never { IfErr result (λ e. e ≢ ReadFault.Memory) }
 {
@@ -161,8 +161,8 @@ fn number_of_eight(rest: &[u8]) -> u64
 #[tactic(auto, using(crate::proofs::Utf8::utf8_tests), unfolding(crate::specs::Fields::text_at, crate::specs::Fields::number_at))]
 fn text_field(rest: &[u8], at: u64) -> Result<(&str, usize), ReadFault>
     ensures field { MatchResult result
-        (λ x. text_at (record { bytes = rest.now; place = at }) ≡ Ok (x.0.now, past (record { bytes = rest.now; place = at }) x.1))
-        (λ e. text_at (record { bytes = rest.now; place = at }) ≡ Err e) }
+        (λ x. text_at (record { bytes = rest.now; offset = at }) ≡ Ok (x.0.now, past (record { bytes = rest.now; offset = at }) x.1))
+        (λ e. text_at (record { bytes = rest.now; offset = at }) ≡ Err e) }
     ensures within { IfOk result (λ x. x.1 ≤ length rest.now) }
     ensures never { IfErr result (λ e. e ≢ ReadFault.Memory) }
 {
@@ -185,8 +185,8 @@ fn text_field(rest: &[u8], at: u64) -> Result<(&str, usize), ReadFault>
 #[tactic(auto, unfolding(crate::specs::Fields::byte_at))]
 fn byte_field(rest: &[u8], at: u64) -> Result<(u8, usize), ReadFault>
     ensures field { MatchResult result
-        (λ x. byte_at (record { bytes = rest.now; place = at }) ≡ Ok (x.0, past (record { bytes = rest.now; place = at }) x.1))
-        (λ e. byte_at (record { bytes = rest.now; place = at }) ≡ Err e) }
+        (λ x. byte_at (record { bytes = rest.now; offset = at }) ≡ Ok (x.0, past (record { bytes = rest.now; offset = at }) x.1))
+        (λ e. byte_at (record { bytes = rest.now; offset = at }) ≡ Err e) }
     ensures within { IfOk result (λ x. x.1 ≤ length rest.now) }
     ensures never { IfErr result (λ e. e ≢ ReadFault.Memory) }
 {

@@ -15,12 +15,13 @@ use Rattle.cell_index.specs.Standing.{touch, prints_touch, Hit, LastHit, IsLast}
 use Rattle.cell_index.proofs.Touching.{print_same}
 use Rattle.merge_laws.specs.Rules.{met, NoRule, Settles, more, done}
 use Rattle.merge_laws.specs.Tidy.{onto, Unmet, Settled}
-use Rattle.canoniser.specs.Meetings.{list_of, kept, touches, Apart, RuleAt, NoRuleAt, Calm, Ready, Leads, stands_out, ops_out, place_left}
+use Rattle.canoniser.specs.Meetings.{list_of, standing_of, touches, Apart, RuleAt, NoRuleAt, Calm, Ready, Leads, stands_out, ops_out, place_left}
 use Rattle.canoniser.proofs.Cells.{met_print}
 use Rattle.canoniser.proofs.Moves.{settled_rule, stays, passes_all, passes_stop, others_settled, left_apart, rule_taken}
 
 -- ---- what stands
-pub kept_append : (fs gs : List Bool) (xs ys : List Operation) → length fs ≡ length xs → kept (fs ++ gs) (xs ++ ys) ≡ kept fs xs ++ kept gs ys
+pub kept_append : (fs gs : List Bool) (xs ys : List Operation) → length fs ≡ length xs
+    → standing_of (fs ++ gs) (xs ++ ys) ≡ standing_of fs xs ++ standing_of gs ys
 kept_append [] gs [] ys h = refl
 kept_append [] gs (x ∷ xs) ys h = absurd (omega (arith, h))
 kept_append (true ∷ fs) gs [] ys h = absurd (omega (arith, h))
@@ -29,12 +30,12 @@ kept_append (true ∷ fs) gs (x ∷ xs) ys h = ap (λ l. x ∷ l) (kept_append f
 kept_append (false ∷ fs) gs (x ∷ xs) ys h = kept_append fs gs xs ys (omega (arith, h))
 
 -- those that have not come all stand
-pub kept_rest : (fs : List Bool) (xs ys : List Operation) → length fs ≡ length xs → kept fs (xs ++ ys) ≡ kept fs xs ++ ys
-kept_rest fs xs ys h = ap (λ l. kept l (xs ++ ys)) (sym (append-nil fs)) ∙ kept_append fs [] xs ys h
+pub kept_rest : (fs : List Bool) (xs ys : List Operation) → length fs ≡ length xs → standing_of fs (xs ++ ys) ≡ standing_of fs xs ++ ys
+kept_rest fs xs ys h = ap (λ l. standing_of l (xs ++ ys)) (sym (append-nil fs)) ∙ kept_append fs [] xs ys h
 
 -- none of those that stand in a part touches b
 pub part_apart : (meta : Meta) (b : Operation) (gs : List Bool) (ys : List Operation) → length gs ≡ length ys
-    → ((j : ℕ) (y : Operation) → j < length ys → get_or gs j false ≡ true → y ≡ get_or ys j y → touches meta b y ≡ false) → Apart meta b (kept gs ys)
+    → ((j : ℕ) (y : Operation) → j < length ys → get_or gs j false ≡ true → y ≡ get_or ys j y → touches meta b y ≡ false) → Apart meta b (standing_of gs ys)
 part_apart meta b [] [] h out = tt
 part_apart meta b [] (y ∷ ys) h out = absurd (omega (arith, h))
 part_apart meta b (true ∷ gs) [] h out = absurd (omega (arith, h))
@@ -134,7 +135,7 @@ same_place meta (x ∷ front) back a c w r = ap (λ l. (op_writes meta x, op_rea
 -- what a turn makes of the flags and operations, where it gives a place or none
 pub record Turned (meta : Meta) (stands made : List Bool) (prints : List Print) (ops new : List Operation) (at : ℕ) (o : Option ℕ) : Type 0 where
   pub printed : shown prints ≡ printed meta new
-  pub leads : Leads meta (kept stands ops) (kept made new)
+  pub leads : Leads meta (standing_of stands ops) (standing_of made new)
   pub turned : MatchOption o (Calm meta made new) (Ready meta made new)
   pub lower : IfSome o (λ j. j < at)
 
@@ -163,11 +164,11 @@ module _ (meta : Meta) (stands : List Bool) (prints : List Print) (ops : List Op
       one_at (p ∷ ps) zero low = (p, refl)
       one_at (p ∷ ps) (suc n) low = one_at ps n (omega (arith, low))
 
-  whole : kept stands ops ≡ kept r.first r.front ++ (r.b ∷ (kept r.second r.back ++ r.rest))
+  whole : standing_of stands ops ≡ standing_of r.first r.front ++ (r.b ∷ (standing_of r.second r.back ++ r.rest))
   whole =
-      (λ i. kept (r.stands_is i) (r.ops_is i))
+      (λ i. standing_of (r.stands_is i) (r.ops_is i))
       ∙ kept_append r.first (true ∷ r.second) r.front (r.b ∷ (r.back ++ r.rest)) r.many
-      ∙ ap (λ l. kept r.first r.front ++ (r.b ∷ l)) (kept_rest r.second r.back r.rest r.more)
+      ∙ ap (λ l. standing_of r.first r.front ++ (r.b ∷ l)) (kept_rest r.second r.back r.rest r.more)
 
   -- what stands before the place
   front_flag : (k : ℕ) → k < length r.front → get_or stands k false ≡ get_or r.first k false
@@ -178,7 +179,7 @@ module _ (meta : Meta) (stands : List Bool) (prints : List Print) (ops : List Op
 
   -- ---- no rule
   -- all come to stand
-  calm_stays : Unmet meta r.b (onto (kept r.first r.front) []) → Calm meta stands ops
+  calm_stays : Unmet meta r.b (onto (standing_of r.first r.front) []) → Calm meta stands ops
   calm_stays unmet = record {
     come = r.front ++ (r.b ∷ r.back);
     rest = r.rest;
@@ -186,13 +187,13 @@ module _ (meta : Meta) (stands : List Bool) (prints : List Print) (ops : List Op
     many = let m = many_come in let l = length-append r.front (r.b ∷ r.back) in omega (arith, m, l);
     settled =
         subst (λ l. Settled meta (onto l []))
-        (sym (ap (λ l. kept l (r.front ++ (r.b ∷ r.back))) r.stands_is ∙ kept_append r.first (true ∷ r.second) r.front (r.b ∷ r.back) r.many))
-        (stays meta r.b (kept r.first r.front) (kept r.second r.back) unmet r.apart r.settled);
+        (sym (ap (λ l. standing_of l (r.front ++ (r.b ∷ r.back))) r.stands_is ∙ kept_append r.first (true ∷ r.second) r.front (r.b ∷ r.back) r.many))
+        (stays meta r.b (standing_of r.first r.front) (standing_of r.second r.back) unmet r.apart r.settled);
   }
 
   -- nothing touches it
   calm_free : ((k : ℕ) → Hit stands prints p_there.0 at k → ⊥) → Calm meta stands ops
-  calm_free none = calm_stays (passes_all meta r.b (kept r.first r.front) (part_apart meta r.b r.first r.front r.many
+  calm_free none = calm_stays (passes_all meta r.b (standing_of r.first r.front) (part_apart meta r.b r.first r.front r.many
       (λ k y low on y_is. no_hit meta prints ops is stands at k p_there.0 r.b y within_ops (let p = r.place in omega (arith, low, p)) p_there.1 b_is
       (y_is ∙ sym (front_op k y low)) (front_flag k low ∙ on) (none k))))
 
@@ -210,11 +211,11 @@ module _ (meta : Meta) (stands : List Bool) (prints : List Print) (ops : List Op
     pub a_is : cut.a ≡ get_or ops i cut.a
     a_is = a_front ∙ sym (front_op i cut.a low)
 
-    front_is : kept r.first r.front ≡ kept cut.first cut.front ++ (cut.a ∷ kept cut.second cut.mid)
-    front_is = (λ t. kept (cut.flags t) (cut.ops t)) ∙ kept_append cut.first (true ∷ cut.second) cut.front (cut.a ∷ cut.mid) cut.many
+    front_is : standing_of r.first r.front ≡ standing_of cut.first cut.front ++ (cut.a ∷ standing_of cut.second cut.mid)
+    front_is = (λ t. standing_of (cut.flags t) (cut.ops t)) ∙ kept_append cut.first (true ∷ cut.second) cut.front (cut.a ∷ cut.mid) cut.many
 
     -- none between touches it
-    between : Apart meta r.b (kept cut.second cut.mid)
+    between : Apart meta r.b (standing_of cut.second cut.mid)
     between = part_apart meta r.b cut.second cut.mid cut.more (λ j y inside on y_is.
         let p = cut.place in
         let all = ap length cut.ops ∙ length-append cut.front (cut.a ∷ cut.mid) in
@@ -232,12 +233,12 @@ module _ (meta : Meta) (stands : List Bool) (prints : List Print) (ops : List Op
 
     calm_stop : met cut.a r.b ≡ None → Calm meta stands ops
     calm_stop none = calm_stays (subst (λ l. Unmet meta r.b (onto l [])) (sym front_is)
-        (passes_stop meta r.b cut.a (kept cut.first cut.front) (kept cut.second cut.mid) between none
+        (passes_stop meta r.b cut.a (standing_of cut.first cut.front) (standing_of cut.second cut.mid) between none
         (some_hit meta prints ops is stands at i p_there.0 r.b cut.a within_ops p_there.1 b_is a_is last.hit)))
 
     module _ (left : Option Operation) (rule : met cut.a r.b ≡ Some (list_of left)) where
-      settled : Settled meta (onto ((kept cut.first cut.front ++ (cut.a ∷ kept cut.second cut.mid)) ++ kept r.second r.back) [])
-      settled = subst (λ l. Settled meta (onto (l ++ kept r.second r.back) [])) front_is r.settled
+      settled : Settled meta (onto ((standing_of cut.first cut.front ++ (cut.a ∷ standing_of cut.second cut.mid)) ++ standing_of r.second r.back) [])
+      settled = subst (λ l. Settled meta (onto (l ++ standing_of r.second r.back) [])) front_is r.settled
 
       -- the flags and operations around both places
       flags_around : stands ≡ (cut.first ++ (true ∷ cut.second)) ++ (true ∷ r.second)
@@ -264,7 +265,7 @@ module _ (meta : Meta) (stands : List Bool) (prints : List Print) (ops : List Op
           let x = length-append cut.second (false ∷ r.second) in let y = length-append cut.mid (r.b ∷ r.back) in
           let m = cut.more in let n = r.more in omega (arith, x, y, m, n)
 
-      tail_kept : kept (cut.second ++ (false ∷ r.second)) (cut.mid ++ (r.b ∷ r.back)) ≡ kept cut.second cut.mid ++ kept r.second r.back
+      tail_kept : standing_of (cut.second ++ (false ∷ r.second)) (cut.mid ++ (r.b ∷ r.back)) ≡ standing_of cut.second cut.mid ++ standing_of r.second r.back
       tail_kept = kept_append cut.second (false ∷ r.second) cut.mid (r.b ∷ r.back) cut.more
 
       -- where nothing is left
@@ -280,10 +281,11 @@ module _ (meta : Meta) (stands : List Bool) (prints : List Print) (ops : List Op
             let t = tail_more in let m = cut.many in omega (arith, x, y, t, m);
         settled =
             subst (λ l. Settled meta (onto l []))
-            (sym (ap (λ l. kept l (cut.front ++ (cut.a ∷ (cut.mid ++ (r.b ∷ r.back))))) flags_both
+            (sym (ap (λ l. standing_of l (cut.front ++ (cut.a ∷ (cut.mid ++ (r.b ∷ r.back))))) flags_both
             ∙ kept_append cut.first (false ∷ (cut.second ++ (false ∷ r.second))) cut.front (cut.a ∷ (cut.mid ++ (r.b ∷ r.back))) cut.many
-            ∙ ap (λ l. kept cut.first cut.front ++ l) tail_kept))
-            (others_settled meta cut.a r.b (kept cut.first cut.front) (kept cut.second cut.mid) (kept r.second r.back) left between r.apart settled rule);
+            ∙ ap (λ l. standing_of cut.first cut.front ++ l) tail_kept))
+            (others_settled meta cut.a r.b (standing_of cut.first cut.front) (standing_of cut.second cut.mid)
+            (standing_of r.second r.back) left between r.apart settled rule);
       }
 
       -- where one operation is left
@@ -300,41 +302,45 @@ module _ (meta : Meta) (stands : List Bool) (prints : List Print) (ops : List Op
         many = cut.many;
         more = tail_more;
         place = cut.place;
-        settled = subst (λ l. Settled meta (onto (kept cut.first cut.front ++ l) [])) (sym tail_kept)
-            (others_settled meta cut.a r.b (kept cut.first cut.front) (kept cut.second cut.mid) (kept r.second r.back) left between r.apart settled rule);
+        settled = subst (λ l. Settled meta (onto (standing_of cut.first cut.front ++ l) [])) (sym tail_kept)
+            (others_settled meta cut.a r.b (standing_of cut.first cut.front) (standing_of cut.second cut.mid)
+            (standing_of r.second r.back) left between r.apart settled rule);
         apart = subst (Apart meta c) (sym tail_kept)
-            (left_apart meta cut.a r.b (kept cut.first cut.front) (kept cut.second cut.mid)
-            (kept r.second r.back) left between r.apart settled rule c one);
+            (left_apart meta cut.a r.b (standing_of cut.first cut.front) (standing_of cut.second cut.mid)
+            (standing_of r.second r.back) left between r.apart settled rule c one);
       }
 
       -- what the rule leaves of all
-      rule_whole : kept stands ops ≡ (kept cut.first cut.front ++ (cut.a ∷ kept cut.second cut.mid)) ++ (r.b ∷ (kept r.second r.back ++ r.rest))
-      rule_whole = whole ∙ ap (λ l. l ++ (r.b ∷ (kept r.second r.back ++ r.rest))) front_is
+      rule_whole : standing_of stands ops ≡ (standing_of cut.first cut.front ++ (cut.a ∷ standing_of cut.second cut.mid))
+          ++ (r.b ∷ (standing_of r.second r.back ++ r.rest))
+      rule_whole = whole ∙ ap (λ l. l ++ (r.b ∷ (standing_of r.second r.back ++ r.rest))) front_is
 
       leads_by : (q : List Operation)
-          → q ≡ kept cut.first cut.front ++ (list_of left ++ (kept cut.second cut.mid ++ (kept r.second r.back ++ r.rest)))
-          → Leads meta (kept stands ops) q
+          → q ≡ standing_of cut.first cut.front ++ (list_of left ++ (standing_of cut.second cut.mid ++ (standing_of r.second r.back ++ r.rest)))
+          → Leads meta (standing_of stands ops) q
       leads_by q e r' h = subst (λ l. Settles meta l r') (sym rule_whole)
-          (more (rule_taken meta cut.a r.b (kept cut.first cut.front) (kept cut.second cut.mid)
-          (kept r.second r.back) left between r.apart settled rule r.rest) (subst (λ l. Settles meta l r') e h))
+          (more (rule_taken meta cut.a r.b (standing_of cut.first cut.front) (standing_of cut.second cut.mid)
+          (standing_of r.second r.back) left between r.apart settled rule r.rest) (subst (λ l. Settles meta l r') e h))
 
-      rest_kept : kept (cut.second ++ (false ∷ r.second)) (cut.mid ++ (r.b ∷ (r.back ++ r.rest))) ≡ kept cut.second cut.mid ++ (kept r.second r.back ++ r.rest)
+      rest_kept : standing_of (cut.second ++ (false ∷ r.second)) (cut.mid ++ (r.b ∷ (r.back ++ r.rest))) ≡ standing_of cut.second cut.mid
+          ++ (standing_of r.second r.back ++ r.rest)
       rest_kept = kept_append cut.second (false ∷ r.second) cut.mid (r.b ∷ (r.back ++ r.rest)) cut.more
-          ∙ ap (λ l. kept cut.second cut.mid ++ l) (kept_rest r.second r.back r.rest r.more)
+          ∙ ap (λ l. standing_of cut.second cut.mid ++ l) (kept_rest r.second r.back r.rest r.more)
 
-      gone_leads : left ≡ None → Leads meta (kept stands ops) (kept (set (set stands at false) i false) ops)
-      gone_leads nothing = leads_by (kept (set (set stands at false) i false) ops)
-          ((λ t. kept (flags_both t) (ops_around t))
+      gone_leads : left ≡ None → Leads meta (standing_of stands ops) (standing_of (set (set stands at false) i false) ops)
+      gone_leads nothing = leads_by (standing_of (set (set stands at false) i false) ops)
+          ((λ t. standing_of (flags_both t) (ops_around t))
           ∙ kept_append cut.first (false ∷ (cut.second ++ (false ∷ r.second))) cut.front (cut.a ∷ (cut.mid ++ (r.b ∷ (r.back ++ r.rest)))) cut.many
-          ∙ ap (λ l. kept cut.first cut.front ++ l) rest_kept
-          ∙ ap (λ o. kept cut.first cut.front ++ (list_of o ++ (kept cut.second cut.mid ++ (kept r.second r.back ++ r.rest)))) (sym nothing))
+          ∙ ap (λ l. standing_of cut.first cut.front ++ l) rest_kept
+          ∙ ap (λ o. standing_of cut.first cut.front ++ (list_of o ++ (standing_of cut.second cut.mid ++ (standing_of r.second r.back ++ r.rest))))
+          (sym nothing))
 
-      left_leads : (c : Operation) → left ≡ Some c → Leads meta (kept stands ops) (kept (set stands at false) (set ops i c))
-      left_leads c one = leads_by (kept (set stands at false) (set ops i c))
-          ((λ t. kept (flags_gone t) (ops_set c t))
+      left_leads : (c : Operation) → left ≡ Some c → Leads meta (standing_of stands ops) (standing_of (set stands at false) (set ops i c))
+      left_leads c one = leads_by (standing_of (set stands at false) (set ops i c))
+          ((λ t. standing_of (flags_gone t) (ops_set c t))
           ∙ kept_append cut.first (true ∷ (cut.second ++ (false ∷ r.second))) cut.front (c ∷ (cut.mid ++ (r.b ∷ (r.back ++ r.rest)))) cut.many
-          ∙ ap (λ l. kept cut.first cut.front ++ (c ∷ l)) rest_kept
-          ∙ ap (λ o. kept cut.first cut.front ++ (list_of o ++ (kept cut.second cut.mid ++ (kept r.second r.back ++ r.rest)))) (sym one))
+          ∙ ap (λ l. standing_of cut.first cut.front ++ (c ∷ l)) rest_kept
+          ∙ ap (λ o. standing_of cut.first cut.front ++ (list_of o ++ (standing_of cut.second cut.mid ++ (standing_of r.second r.back ++ r.rest)))) (sym one))
 
       -- what is left has the cells of the operation whose place it takes
       left_printed : (c : Operation) → left ≡ Some c → shown prints ≡ printed meta (set ops i c)
@@ -383,7 +389,7 @@ module _ (meta : Meta) (stands : List Bool) (prints : List Print) (ops : List Op
 -- ---- one operation more
 pub calm_none : (meta : Meta) (stands : List Bool) (ops : List Operation) → stands ≡ [] → Calm meta stands ops
 calm_none meta stands ops e =
-    record { come = []; rest = ops; is = refl; many = ap length e; settled = subst (λ l. Settled meta (onto (kept l []) [])) (sym e) tt }
+    record { come = []; rest = ops; is = refl; many = ap length e; settled = subst (λ l. Settled meta (onto (standing_of l []) [])) (sym e) tt }
 
 first_rest : (xs : List Operation) → 0 < length xs → (b : Operation) × (ys : List Operation) × (xs ≡ b ∷ ys)
 first_rest [] h = absurd (omega (arith, h))
@@ -407,12 +413,12 @@ calm_ready meta stands made ops at c few out at_is =
       many = c.many;
       more = refl;
       place = sym c.many ∙ sym at_is;
-      settled = subst (λ l. Settled meta (onto l [])) (sym (append-nil (kept stands c.come))) c.settled;
+      settled = subst (λ l. Settled meta (onto l [])) (sym (append-nil (standing_of stands c.come))) c.settled;
       apart = tt;
     }
 
 -- it stands from the first
-pub kept_more : (stands : List Bool) (ops : List Operation) → length stands < length ops → kept (stands ++ true ∷ []) ops ≡ kept stands ops
+pub kept_more : (stands : List Bool) (ops : List Operation) → length stands < length ops → standing_of (stands ++ true ∷ []) ops ≡ standing_of stands ops
 kept_more [] [] h = absurd (omega (arith, h))
 kept_more [] (o ∷ ops) h = refl
 kept_more (true ∷ stands) [] h = absurd (omega (arith, h))
@@ -422,15 +428,15 @@ kept_more (false ∷ stands) (o ∷ ops) h = kept_more stands ops (omega (arith,
 
 -- ---- all have come
 pub calm_settles : (meta : Meta) (stands : List Bool) (ops : List Operation) → Calm meta stands ops → length ops ≤ length stands
-    → Settles meta (kept stands ops) (kept stands ops)
-calm_settles meta stands ops c all = done (subst (NoRule meta) same (settled_rule meta (kept stands c.come) c.settled))
+    → Settles meta (standing_of stands ops) (standing_of stands ops)
+calm_settles meta stands ops c all = done (subst (NoRule meta) same (settled_rule meta (standing_of stands c.come) c.settled))
   where
     no_rest : (xs : List Operation) → length xs ≤ 0 → xs ≡ []
     no_rest [] h = refl
     no_rest (x ∷ xs) h = absurd (omega (arith, h))
 
-    same : kept stands c.come ≡ kept stands ops
+    same : standing_of stands c.come ≡ standing_of stands ops
     same =
         let long = ap length c.is ∙ length-append c.come c.rest in
         let m = c.many in
-        ap (kept stands) (sym (append-nil c.come) ∙ ap (λ l. c.come ++ l) (sym (no_rest c.rest (omega (arith, long, m, all)))) ∙ sym c.is)
+        ap (standing_of stands) (sym (append-nil c.come) ∙ ap (λ l. c.come ++ l) (sym (no_rest c.rest (omega (arith, long, m, all)))) ∙ sym c.is)

@@ -14,12 +14,12 @@ list_of None = []
 list_of (Some o) = o ∷ []
 
 -- the operations that stand; those that are not added yet all do
-abbrev pub kept : List Bool → List Operation → List Operation
-kept [] ops = ops
-kept (true ∷ stands) [] = []
-kept (false ∷ stands) [] = []
-kept (true ∷ stands) (o ∷ ops) = o ∷ kept stands ops
-kept (false ∷ stands) (o ∷ ops) = kept stands ops
+abbrev pub standing_of : List Bool → List Operation → List Operation
+standing_of [] ops = ops
+standing_of (true ∷ stands) [] = []
+standing_of (false ∷ stands) [] = []
+standing_of (true ∷ stands) (o ∷ ops) = o ∷ standing_of stands ops
+standing_of (false ∷ stands) (o ∷ ops) = standing_of stands ops
 
 -- the operations interfere, or neither writes anything
 abbrev pub touches : Meta → Operation → Operation → Bool
@@ -47,7 +47,7 @@ pub record Calm (meta : Meta) (stands : List Bool) (ops : List Operation) : Type
   pub rest : List Operation
   pub is : ops ≡ come ++ rest
   pub many : length stands ≡ length come
-  pub settled : Settled meta (onto (kept stands come) [])
+  pub settled : Settled meta (onto (standing_of stands come) [])
 
 -- An operation stands at the place. No rule applies to the others that were added and stand, and none of those after the place
 -- touches it.
@@ -63,8 +63,8 @@ pub record Ready (meta : Meta) (stands : List Bool) (ops : List Operation) (at :
   pub many : length first ≡ length front
   pub more : length second ≡ length back
   pub place : length front ≡ at
-  pub settled : Settled meta (onto (kept first front ++ kept second back) [])
-  pub apart : Apart meta b (kept second back)
+  pub settled : Settled meta (onto (standing_of first front ++ standing_of second back) [])
+  pub apart : Apart meta b (standing_of second back)
 
 -- what the second list settles to, the first settles to
 abbrev pub Leads : Meta → List Operation → List Operation → Type 0

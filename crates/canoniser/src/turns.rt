@@ -3,7 +3,7 @@ ghost use Rattle.std.specs.Prelude.{◌≡◌, ◌<◌, ◌≤◌, ◌+◌, ◌+
 ghost use Rattle.footprint.specs.Prints.{shown, printed};
 ghost use Rattle.cell_index.specs.Standing.{ListsStanding};
 ghost use Rattle.merge_laws.specs.Rules.{Settles};
-ghost use Rattle.canoniser.specs.Meetings.{kept, stands_out, ops_out, place_left, Calm, Ready, Leads};
+ghost use Rattle.canoniser.specs.Meetings.{standing_of, stands_out, ops_out, place_left, Calm, Ready, Leads};
 
 use crate::search::{Found, nearest};
 use cell_index::Standing;
@@ -59,7 +59,7 @@ fn turn(
     requires ready { Ready meta.now standing.old.stands.items list.old.items at }
     ensures keeps { OnOk result (ListsStanding standing.new prints.now) }
     ensures printed { OnOk result (shown prints.now ≡ printed meta.now list.new.items) }
-    ensures leads { OnOk result (Leads meta.now (kept standing.old.stands.items list.old.items) (kept standing.new.stands.items list.new.items)) }
+    ensures leads { OnOk result (Leads meta.now (standing_of standing.old.stands.items list.old.items) (standing_of standing.new.stands.items list.new.items)) }
     ensures turned { IfOk result (λ r. MatchOption r (Calm meta.now standing.new.stands.items list.new.items) (λ i. Ready meta.now standing.new.stands.items list.new.items i)) }
     ensures lower { IfOk result (λ r. IfSome r (λ i. i < at)) }
     ensures many { OnOk result (length standing.new.stands.items ≡ length standing.old.stands.items) }
@@ -90,7 +90,7 @@ fn enter(
     requires calm { Calm meta.now standing.old.stands.items list.old.items }
     ensures keeps { OnOk result (ListsStanding standing.new prints.now) }
     ensures printed { OnOk result (shown prints.now ≡ printed meta.now list.new.items) }
-    ensures leads { OnOk result (Leads meta.now (kept standing.old.stands.items list.old.items) (kept standing.new.stands.items list.new.items)) }
+    ensures leads { OnOk result (Leads meta.now (standing_of standing.old.stands.items list.old.items) (standing_of standing.new.stands.items list.new.items)) }
     ensures calm { OnOk result (Calm meta.now standing.new.stands.items list.new.items) }
     ensures many { OnOk result (length standing.new.stands.items ≡ length standing.old.stands.items + 1) }
     ensures size { OnOk result (length list.new.items ≡ length list.old.items) }
@@ -111,7 +111,7 @@ pub(crate) fn settle(
     prints: &[Print],
 ) -> Result<Standing, AllocError>
     requires printed { shown prints.now ≡ printed meta.now list.old.items }
-    ensures settles { IfOk result (λ s. Settles meta.now list.old.items (kept s.stands.items list.new.items)) }
+    ensures settles { IfOk result (λ s. Settles meta.now list.old.items (standing_of s.stands.items list.new.items)) }
     ensures many { IfOk result (λ s. length s.stands.items ≡ length list.new.items) }
 {
     let mut standing = Standing::new(alloc, prints)?;
@@ -123,7 +123,7 @@ pub(crate) fn settle(
 
 /// Puts the operation after the others, if it is kept.
 fn put_kept(list: &mut Vec<Operation>, op: Operation, is_kept: bool) -> Result<(), AllocError>
-    ensures { OnOk result (list.new.items ≡ list.old.items ++ kept (is_kept ∷ []) (op ∷ [])) }
+    ensures { OnOk result (list.new.items ≡ list.old.items ++ standing_of (is_kept ∷ []) (op ∷ [])) }
 {
     if is_kept {
         list.push(op)?;
@@ -138,7 +138,7 @@ pub(crate) fn keep(
     stands: &[bool],
 ) -> Result<Vec<Operation>, AllocError>
     requires many { length stands.now ≡ length list.items }
-    ensures { IfOk result (λ v. v.items ≡ kept stands.now list.items) }
+    ensures { IfOk result (λ v. v.items ≡ standing_of stands.now list.items) }
 {
     let mut list = list;
     let mut turned = Vec::new(alloc);

@@ -9,7 +9,7 @@ use Rattle.model_state.specs.Keys.{IdBytes}
 use Rattle.history_tree.specs.declared.version.Version.{Version}
 use Rattle.history_tree.specs.Laws.{Rises}
 use Rattle.history_tree.specs.MergeBase.{is_among}
-use Rattle.history_tree.specs.States.{package_at}
+use Rattle.history_tree.specs.States.{package_of_version}
 use Rattle.change_index.specs.Last.{IsLast, later, last_of}
 use Rattle.change_index.specs.Written.{Pairs, wrote, written}
 use Rattle.change_index.specs.Table.{Table, listed, pairs_below}
@@ -128,7 +128,7 @@ length-first meta vs n fits = length-index_of meta (take n vs) ∙ length-taken 
 
 -- what it says of a version is what the version wrote
 pub wrote_in-first : (meta : Meta) (vs : List Version) (n u : ℕ) → u < n → (e : IdBytes) (f : ℕ)
-    → wrote_in (index_of meta (take n vs)) e f u ≡ wrote meta (package_at vs u) e f
+    → wrote_in (index_of meta (take n vs)) e f u ≡ wrote meta (package_of_version vs u) e f
 wrote_in-first meta vs zero u low e f = absurd (omega (arith, low))
 wrote_in-first meta [] (suc n) u low e f = refl
 wrote_in-first meta (v ∷ vs) (suc n) zero low e f = contains-written meta v.«package» e f

@@ -5,7 +5,7 @@ use Rattle.model_state.specs.Keys.{IdBytes}
 use Rattle.history_tree.specs.declared.version.Version.{Version}
 use Rattle.history_tree.specs.History.{History, path}
 use Rattle.history_tree.specs.Whole.{IsWhole}
-use Rattle.history_tree.specs.States.{package_at}
+use Rattle.history_tree.specs.States.{package_of_version}
 use Rattle.history_tree.specs.Laws.{Rises}
 use Rattle.change_index.specs.Last.{IsLast, last_of}
 use Rattle.change_index.specs.Written.{wrote, written}
@@ -13,7 +13,7 @@ use Rattle.change_index.specs.Index.{wrote_in, index_of}
 
 -- the last version on a version's path that wrote the feature
 abbrev pub IsLastWrite : Meta → History → ℕ → IdBytes → ℕ → Option ℕ → Type 0
-IsLastWrite meta h v e f last = IsLast (λ u. wrote meta (package_at h.versions u) e f) (path h v) last
+IsLastWrite meta h v e f last = IsLast (λ u. wrote meta (package_of_version h.versions u) e f) (path h v) last
 
 -- what is added to the index of some versions makes that of one more
 abbrev pub VersionsAreAdded : Type 0

@@ -6,15 +6,15 @@ use Rattle.std.proofs.lemmas.Bool.{cases_eq}
 use Rattle.std.specs.Prelude.{IsTrue}
 use Rattle.host_port.specs.Host.{Told, GoesOn, Throughout, disk_now, Disk, Span, MayLeave, WrittenPart, overwritten, written, synced, CrashLeaves}
 use Rattle.host_port.proofs.Replaying.{whole_write}
-use Rattle.commit_journal.specs.TornWrites.{IsSettled, Torn, IsWriting}
-use Rattle.commit_journal.specs.Journal.{after_gate, HoldsRecord, RecordFits, IsReady, IsShort, EndsAt, IsAtRest, IsBeforeOrAfter, IsGateLast, open_gate}
+use Rattle.commit_journal.specs.TornWrites.{IsStable, Torn, IsWriting}
+use Rattle.commit_journal.specs.Journal.{after_gate, HoldsRecord, RecordFits, IsReady, IsShort, EndsAt, IsJournalAtRest, IsBeforeOrAfter, IsGateLast, open_gate}
 use Rattle.commit_journal.proofs.Torn.{torn_part, left_settled, torn_front, torn_back}
 use Rattle.commit_journal.proofs.Ends.{stands, same_end, opened, shut, length-after_gate}
 use Rattle.page_pool.specs.Frames.{Frames}
 use Rattle.page_pool.specs.Paged.{PagedState, content}
 use Rattle.host_port.proofs.Course.{carry_on, told_next}
 
-pub synced_settled : (disk : Disk) → IsSettled (synced disk)
+pub synced_settled : (disk : Disk) → IsStable (synced disk)
 synced_settled disk = record { tight = refl; same = refl }
 
 part_torn : (old disk : Disk) (span : Span) → WrittenPart old span disk → Torn span old.now disk.now
@@ -25,7 +25,7 @@ overwritten_back old at bytes fits =
     ap (λ (l : List ℕ). drop at l) (append_assoc (take at old) bytes (drop (at + length bytes) old))
     ∙ drop_at (take at old) (bytes ++ drop (at + length bytes) old) at (omega (arith, length-take at old))
 
-module _ (old : Disk) (at : ℕ) (bytes : List ℕ) (settled : IsSettled old) (fits : at ≤ length old.now) where
+module _ (old : Disk) (at : ℕ) (bytes : List ℕ) (settled : IsStable old) (fits : at ≤ length old.now) where
   pub whole_torn : Torn (record { from = at; to = at + length bytes }) old.now (overwritten old.now at bytes)
   whole_torn = part_torn old (written old at bytes) _ (whole_write old at bytes (written old at bytes) fits refl)
 
@@ -41,7 +41,7 @@ module _ (old : Disk) (at : ℕ) (bytes : List ℕ) (settled : IsSettled old) (f
       let is = left_settled (synced (written old at bytes)) x (synced_settled (written old at bytes)) (subst (λ d. MayLeave d x) done left) in
       subst (λ (l : List ℕ). Torn (record { from = at; to = at + length bytes }) old.now l) (sym is) whole_torn
 
-module _ (old : Disk) (forms : List (List ℕ)) (gate : ℕ) (form : List ℕ) (at_rest : IsAtRest old forms gate) (short : IsShort form)
+module _ (old : Disk) (forms : List (List ℕ)) (gate : ℕ) (form : List ℕ) (at_rest : IsJournalAtRest old forms gate) (short : IsShort form)
     (fits : gate + length form + 6 ≤ 2 ^ 40) where
   in_file : gate + 1 ≤ length old.now
   in_file = omega (arith, at_rest.ends.in_file)
@@ -126,7 +126,7 @@ module _ (old : Disk) (forms : List (List ℕ)) (gate : ℕ) (form : List ℕ) (
       ∙ behind_stays (overwritten staged gate (open_gate ∷ []))
       (whole_torn mid gate (open_gate ∷ []) (synced_settled (written old (gate + 1) (after_gate form))) (omega (arith, staged_long)))
 
-  pub second_done : (disk : Disk) → disk ≡ synced (written mid gate (open_gate ∷ [])) → IsAtRest disk (forms ++ form ∷ []) (gate + 5 + length form)
+  pub second_done : (disk : Disk) → disk ≡ synced (written mid gate (open_gate ∷ [])) → IsJournalAtRest disk (forms ++ form ∷ []) (gate + 5 + length form)
   second_done disk done =
       let torn = whole_torn mid gate (open_gate ∷ []) (synced_settled (written old (gate + 1) (after_gate form))) (omega (arith, staged_long)) in
       let back = overwritten_back staged gate (open_gate ∷ []) (omega (arith, staged_long)) in
@@ -134,7 +134,7 @@ module _ (old : Disk) (forms : List (List ℕ)) (gate : ℕ) (form : List ℕ) (
       let gate_is : get_or new gate 0 ≡ open_gate =
       ap (λ (l : List ℕ). get_or l gate 0) (append_assoc (take gate staged) (open_gate ∷ []) (drop (gate + 1) staged))
       ∙ get_or_at (take gate staged) open_gate (drop (gate + 1) staged) 0 gate (omega (arith, length-take gate staged, staged_long)) in
-      subst (λ d. IsAtRest d (forms ++ form ∷ []) (gate + 5 + length form)) (sym done)
+      subst (λ d. IsJournalAtRest d (forms ++ form ∷ []) (gate + 5 + length form)) (sym done)
       (record { settled = synced_settled (written mid gate (open_gate ∷ [])); ends = after new torn gate_is })
 
 pub is_short : (gate : ℕ) (form : List ℕ) → RecordFits gate (length form) → IsShort form
@@ -163,17 +163,18 @@ module _ (a b : Told) (gate at : ℕ) (form bytes : List ℕ) (gate_is : at ≡ 
       subst (λ (n : ℕ). IsWriting (disk_now a) (n + 1) (after_gate form) (b.disk t)) gate_is
       (subst (λ (l : List ℕ). IsWriting (disk_now a) (at + 1) l (b.disk t)) bytes_is (during told t low high))
 
-  pub one_any_moment : (forms : List (List ℕ)) → IsAtRest (disk_now a) forms gate → Throughout a b (λ disk said. CrashLeaves (IsBeforeOrAfter forms form) disk)
+  pub one_any_moment : (forms : List (List ℕ)) → IsJournalAtRest (disk_now a) forms gate
+      → Throughout a b (λ disk said. CrashLeaves (IsBeforeOrAfter forms form) disk)
   one_any_moment forms at_rest told t low high x left =
       inl (stands x forms gate
       (first_leaves (disk_now a) forms gate form at_rest (is_short gate form fit) fit.room (b.disk t) (first told t low high) x left))
 
-  pub one_front : (IsTrue a.tells → (forms : List (List ℕ)) × IsAtRest (disk_now a) forms gate)
+  pub one_front : (IsTrue a.tells → (forms : List (List ℕ)) × IsJournalAtRest (disk_now a) forms gate)
       → Throughout a b (λ disk said. take gate disk.now ≡ take gate (disk_now a).now)
   one_front rest told t low high =
       first_front (disk_now a) (rest told).0 gate form (rest told).1 (is_short gate form fit) fit.room (b.disk t) (first told t low high)
 
-  pub one_gate_last : (IsTrue a.tells → (forms : List (List ℕ)) × IsAtRest (disk_now a) forms gate)
+  pub one_gate_last : (IsTrue a.tells → (forms : List (List ℕ)) × IsJournalAtRest (disk_now a) forms gate)
       → Throughout a b (λ disk said. IsGateLast (disk_now a) gate (after_gate form) disk)
   one_gate_last rest told t low high =
       inl (first_gate (disk_now a) (rest told).0 gate form (rest told).1 (is_short gate form fit) fit.room (b.disk t) (first told t low high))
@@ -189,25 +190,25 @@ module _ (a b : Told) (gate at : ℕ) (form bytes : List ℕ) (gate_is : at ≡ 
     second told t low high = subst (λ (n : ℕ). IsWriting (synced (written (disk_now a) (gate + 1) (after_gate form))) n (open_gate ∷ []) (c.disk t)) gate_is
         (subst (λ (d : Disk). IsWriting d at (open_gate ∷ []) (c.disk t)) (mid_is told) (later (told_next a b ab told) t low high))
 
-    pub two_any_moment : (forms : List (List ℕ)) → IsAtRest (disk_now a) forms gate
+    pub two_any_moment : (forms : List (List ℕ)) → IsJournalAtRest (disk_now a) forms gate
         → Throughout a c (λ disk said. CrashLeaves (IsBeforeOrAfter forms form) disk)
     two_any_moment forms at_rest told = carry_on a b c (λ disk said. CrashLeaves (IsBeforeOrAfter forms form) disk) ab bc (one_any_moment forms at_rest)
         (λ told_b t low high. second_leaves (disk_now a) forms gate form at_rest (is_short gate form fit) fit.room (c.disk t) (second told t low high)) told
 
-    pub two_front : (IsTrue a.tells → (forms : List (List ℕ)) × IsAtRest (disk_now a) forms gate)
+    pub two_front : (IsTrue a.tells → (forms : List (List ℕ)) × IsJournalAtRest (disk_now a) forms gate)
         → Throughout a c (λ disk said. take gate disk.now ≡ take gate (disk_now a).now)
     two_front rest told = carry_on a b c (λ disk said. take gate disk.now ≡ take gate (disk_now a).now) ab bc (one_front rest)
         (λ told_b t low high. second_front (disk_now a) (rest told).0 gate form (rest told).1 (is_short gate form fit) fit.room (c.disk t)
         (second told t low high)) told
 
-    pub two_gate_last : (IsTrue a.tells → (forms : List (List ℕ)) × IsAtRest (disk_now a) forms gate)
+    pub two_gate_last : (IsTrue a.tells → (forms : List (List ℕ)) × IsJournalAtRest (disk_now a) forms gate)
         → Throughout a c (λ disk said. IsGateLast (disk_now a) gate (after_gate form) disk)
     two_gate_last rest told = carry_on a b c (λ disk said. IsGateLast (disk_now a) gate (after_gate form) disk) ab bc (one_gate_last rest)
         (λ told_b t low high. inr
         (second_behind (disk_now a) (rest told).0 gate form (rest told).1 (is_short gate form fit) fit.room (c.disk t) (second told t low high))) told
 
     pub added : (IsTrue b.tells → disk_now c ≡ synced (written (disk_now b) at (open_gate ∷ []))) → IsTrue a.tells → (forms : List (List ℕ))
-        → IsAtRest (disk_now a) forms gate → IsAtRest (disk_now c) (forms ++ form ∷ []) (gate + 5 + length form)
+        → IsJournalAtRest (disk_now a) forms gate → IsJournalAtRest (disk_now c) (forms ++ form ∷ []) (gate + 5 + length form)
     added ended told forms at_rest = second_done (disk_now a) forms gate form at_rest (is_short gate form fit) fit.room (disk_now c)
         (ended (told_next a b ab told) ∙ ap (λ (n : ℕ). synced (written (disk_now b) n (open_gate ∷ []))) gate_is
         ∙ ap (λ (d : Disk). synced (written d gate (open_gate ∷ []))) (mid_is told))

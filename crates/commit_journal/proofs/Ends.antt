@@ -35,43 +35,43 @@ pub no_records : (forms : List (List ℕ)) → length (records forms) ≡ 0 → 
 no_records [] none = refl
 no_records (f ∷ forms) none = absurd (omega (arith, none, length-append (record_of f) (records forms), length-record_of f))
 
-module _ (file : List ℕ) (forms : List (List ℕ)) (place : ℕ) (ends : EndsAt file forms place) where
+module _ (file : List ℕ) (forms : List (List ℕ)) (offset : ℕ) (ends : EndsAt file forms offset) where
   pub stands : StandsFor file forms
   stands = elim (cases_lt 17 (length file)) [
-    | inl longer ↦ inr (longer, (place, ends))
+    | inl longer ↦ inr (longer, (offset, ends))
     | inr shorter ↦ inl (shorter, no_records forms (omega (arith, shorter, ends.in_file, ends.reads.place_is)))
   ]
 
   -- another file that is the same up to its closed gate
-  pub same_end : (x : List ℕ) → take (place + 1) x ≡ take (place + 1) file → place < length x → EndsAt x forms place
+  pub same_end : (x : List ℕ) → take (offset + 1) x ≡ take (offset + 1) file → offset < length x → EndsAt x forms offset
   same_end x same long = record {
     reads = record {
-      prefix = sym (take-take place (place + 1) x (omega arith)) ∙ ap (λ (l : List ℕ). take place l) same
-          ∙ take-take place (place + 1) file (omega arith) ∙ ends.reads.prefix;
+      prefix = sym (take-take offset (offset + 1) x (omega arith)) ∙ ap (λ (l : List ℕ). take offset l) same
+          ∙ take-take offset (offset + 1) file (omega arith) ∙ ends.reads.prefix;
       place_is = ends.reads.place_is;
       sizes = ends.reads.sizes;
     };
     in_file = long;
     closed = λ open_gate. ends.closed
-        (sym (get_or-take (place + 1) file place 0 (omega arith)) ∙ ap (λ (l : List ℕ). get_or l place 0) (sym same)
-        ∙ get_or-take (place + 1) x place 0 (omega arith) ∙ open_gate);
+        (sym (get_or-take (offset + 1) file offset 0 (omega arith)) ∙ ap (λ (l : List ℕ). get_or l offset 0) (sym same)
+        ∙ get_or-take (offset + 1) x offset 0 (omega arith) ∙ open_gate);
     low = ends.low;
   }
 
   -- a whole record after any gate counts or it doesn't
-  module _ (form rest x : List ℕ) (prefix : take place x ≡ take place file) (behind : drop (place + 1) x ≡ after_gate form ++ rest)
-      (short : IsShort form) (fits : place + length form + 6 ≤ 2 ^ 40) (long : place < length x) where
-    whole : get_or x place 0 ≡ open_gate → x ≡ (header ++ records (forms ++ form ∷ [])) ++ 0 ∷ rest
+  module _ (form rest x : List ℕ) (prefix : take offset x ≡ take offset file) (behind : drop (offset + 1) x ≡ after_gate form ++ rest)
+      (short : IsShort form) (fits : offset + length form + 6 ≤ 2 ^ 40) (long : offset < length x) where
+    whole : get_or x offset 0 ≡ open_gate → x ≡ (header ++ records (forms ++ form ∷ [])) ++ 0 ∷ rest
     whole is_open =
-        let back : drop place x ≡ open_gate ∷ after_gate form ++ rest =
-        drop_more x place 0 long ∙ ap (λ (g : ℕ). g ∷ drop (place + 1) x) is_open ∙ ap (λ (l : List ℕ). open_gate ∷ l) behind in
-        sym (take-append-drop place x) ∙ ap (λ (l : List ℕ). l ++ drop place x) (prefix ∙ ends.reads.prefix)
+        let back : drop offset x ≡ open_gate ∷ after_gate form ++ rest =
+        drop_more x offset 0 long ∙ ap (λ (g : ℕ). g ∷ drop (offset + 1) x) is_open ∙ ap (λ (l : List ℕ). open_gate ∷ l) behind in
+        sym (take-append-drop offset x) ∙ ap (λ (l : List ℕ). l ++ drop offset x) (prefix ∙ ends.reads.prefix)
         ∙ ap (λ (l : List ℕ). (header ++ records forms) ++ l) back
         ∙ sym (ap (λ (l : List ℕ). (header ++ l) ++ 0 ∷ rest) (records-push forms form) ∙ simp append_assoc)
 
-    pub opened : get_or x place 0 ≡ open_gate → EndsAt x (forms ++ form ∷ []) (place + 5 + length form)
+    pub opened : get_or x offset 0 ≡ open_gate → EndsAt x (forms ++ form ∷ []) (offset + 5 + length form)
     opened is_open =
-        let size : length (header ++ records (forms ++ form ∷ [])) ≡ place + 5 + length form =
+        let size : length (header ++ records (forms ++ form ∷ [])) ≡ offset + 5 + length form =
         omega (
           arith,
           length-append header (records (forms ++ form ∷ [])),
@@ -82,13 +82,13 @@ module _ (file : List ℕ) (forms : List (List ℕ)) (place : ℕ) (ends : EndsA
           ends.reads.place_is,
         ) in
         let is = whole is_open in
-        let gate : get_or x (place + 5 + length form) 0 ≡ 0 =
-        ap (λ (l : List ℕ). get_or l (place + 5 + length form) 0) is
-        ∙ get_or_at (header ++ records (forms ++ form ∷ [])) 0 rest 0 (place + 5 + length form) size in
+        let gate : get_or x (offset + 5 + length form) 0 ≡ 0 =
+        ap (λ (l : List ℕ). get_or l (offset + 5 + length form) 0) is
+        ∙ get_or_at (header ++ records (forms ++ form ∷ [])) 0 rest 0 (offset + 5 + length form) size in
         record {
           reads = record {
-            prefix = ap (λ (l : List ℕ). take (place + 5 + length form) l) is
-                ∙ take_at (header ++ records (forms ++ form ∷ [])) (0 ∷ rest) (place + 5 + length form) size;
+            prefix = ap (λ (l : List ℕ). take (offset + 5 + length form) l) is
+                ∙ take_at (header ++ records (forms ++ form ∷ [])) (0 ∷ rest) (offset + 5 + length form) size;
             place_is = omega (arith, size, length-append header (records (forms ++ form ∷ [])), length-header);
             sizes = All-push IsShort forms form ends.reads.sizes short;
           };
@@ -97,7 +97,7 @@ module _ (file : List ℕ) (forms : List (List ℕ)) (place : ℕ) (ends : EndsA
           low = omega arith;
         }
 
-    pub shut : get_or x place 0 ≢ open_gate → EndsAt x forms place
+    pub shut : get_or x offset 0 ≢ open_gate → EndsAt x forms offset
     shut closed = record {
       reads = record { prefix = prefix ∙ ends.reads.prefix; place_is = ends.reads.place_is; sizes = ends.reads.sizes };
       in_file = long;

@@ -4,7 +4,7 @@ use Rattle.std.specs.Prelude.{IsTrue}
 use Rattle.std.proofs.lemmas.List.{append-nil, drop_all}
 use Rattle.host_port.specs.Host.{Told, Disk, MayLeave, GoesOn, Throughout, KeepsDisk, disk_now, overwritten, written, synced, CrashLeaves}
 use Rattle.host_port.proofs.Course.{carry_on, told_next, course_on, kept_now}
-use Rattle.commit_journal.specs.TornWrites.{IsSettled, IsWriting}
+use Rattle.commit_journal.specs.TornWrites.{IsStable, IsWriting}
 use Rattle.commit_journal.specs.Journal.{header, new_file, ReadsTo, EndsAt, StandsFor, StandsForSame, IsNoHeader, IsWalked, MountedFrom, IsAtMostSynced}
 use Rattle.commit_journal.proofs.Torn.{left_settled}
 use Rattle.commit_journal.proofs.Append.{synced_settled, left_torn}
@@ -150,7 +150,7 @@ module _ (a s l : Told) (sync_course : GoesOn a s) (sync_moments : Throughout a 
 
       pub written_walked : IsTrue a.tells → IsWalked (disk_now e) [] 16
       written_walked told = record {
-        settled = subst IsSettled (sym (disk_at_write told)) (synced_settled (written (synced (disk_now a)) 0 plain_file));
+        settled = subst IsStable (sym (disk_at_write told)) (synced_settled (written (synced (disk_now a)) 0 plain_file));
         mounted = inr (file_at_write told);
         reads = subst (λ (l : List ℕ). ReadsTo l [] 16) (sym (file_at_write told)) new_reads;
       }

@@ -76,17 +76,17 @@ wrote_none a at bytes = record {
   now = λ told. sym (over_none (disk_now a).now at);
 }
 
-module _ (a b c : Told) (at place n : ℕ) (bytes piece : List ℕ) (wrote : Wrote a b at bytes n) (place_is : place ≡ at + n) (low : n ≤ length bytes)
+module _ (a b c : Told) (at offset n : ℕ) (bytes piece : List ℕ) (wrote : Wrote a b at bytes n) (place_is : offset ≡ at + n) (low : n ≤ length bytes)
     (piece_is : piece ≡ take frame_size (drop n bytes)) (fits : IsTrue a.tells → at ≤ length (disk_now a).now)
     (course : GoesOn b c) (said : KeepsSaid b c) (input : KeepsInput b c) (alone : RaisesDiskAlone b c)
-    (part : Throughout b c (λ disk said. WrittenPart (disk_now b) (span_of place piece) disk)) where
-  within : IsWithin (span_of at bytes) (span_of place piece)
+    (part : Throughout b c (λ disk said. WrittenPart (disk_now b) (span_of offset piece) disk)) where
+  within : IsWithin (span_of at bytes) (span_of offset piece)
   within = let l = ap length piece_is in let t = length-take frame_size (drop n bytes) in let d = length-drop n bytes
       in record { from = omega (arith, place_is); to = omega (arith, place_is, l, t, d, low) }
 
   pub piece_during : Throughout a c (λ disk said. WrittenWithin (disk_now a) (span_of at bytes) disk)
   piece_during told = carry_on a b c (λ disk said. WrittenWithin (disk_now a) (span_of at bytes) disk) wrote.course course wrote.during
-      (λ told_b t from to. more_within (disk_now a) (disk_now b) (c.disk t) (span_of at bytes) (span_of place piece)
+      (λ told_b t from to. more_within (disk_now a) (disk_now b) (c.disk t) (span_of at bytes) (span_of offset piece)
       (at_last a b (λ disk said. WrittenWithin (disk_now a) (span_of at bytes) disk) wrote.course wrote.during told)
       (part told_b t from to) within) told
 
@@ -107,10 +107,10 @@ module _ (a b c : Told) (at place n : ℕ) (bytes piece : List ℕ) (wrote : Wro
       ∙ ap (λ (l : List ℕ). l ++ drop n (take (n + frame_size) bytes)) (take-take n (n + frame_size) bytes (omega arith))
       ∙ ap (λ (l : List ℕ). take n bytes ++ l) (drop-take n frame_size bytes ∙ sym piece_is)
 
-  place_at : place ≡ at + length (take n bytes)
+  place_at : offset ≡ at + length (take n bytes)
   place_at = let t = length-take n bytes in omega (arith, place_is, t, low)
 
-  pub one_wrote : (IsTrue b.tells → disk_now c ≡ written (disk_now b) place piece) → Wrote a c at bytes (n + frame_size)
+  pub one_wrote : (IsTrue b.tells → disk_now c ≡ written (disk_now b) offset piece) → Wrote a c at bytes (n + frame_size)
   one_wrote whole = record {
     course = piece_course;
     said = piece_said;
@@ -119,15 +119,15 @@ module _ (a b c : Told) (at place n : ℕ) (bytes piece : List ℕ) (wrote : Wro
     during = piece_during;
     now = λ told.
         ap (λ (d : Disk). d.now) (whole (told_next a b wrote.course told))
-        ∙ ap (λ (l : List ℕ). overwritten l place piece) (wrote.now told)
+        ∙ ap (λ (l : List ℕ). overwritten l offset piece) (wrote.now told)
         ∙ ap (λ (p : ℕ). overwritten (overwritten (disk_now a).now at (take n bytes)) p piece) place_at
         ∙ over_over (disk_now a).now at (take n bytes) piece (fits told)
         ∙ ap (λ (l : List ℕ). overwritten (disk_now a).now at l) (sym next);
   }
 
-pub place_fits : (a b : Told) (at place n : ℕ) (bytes : List ℕ) → Wrote a b at bytes n → place ≡ at + n → n ≤ length bytes
-    → (IsTrue a.tells → at ≤ length (disk_now a).now) → IsTrue a.tells → place ≤ length (disk_now b).now
-place_fits a b at place n bytes wrote is low fits told =
+pub place_fits : (a b : Told) (at offset n : ℕ) (bytes : List ℕ) → Wrote a b at bytes n → offset ≡ at + n → n ≤ length bytes
+    → (IsTrue a.tells → at ≤ length (disk_now a).now) → IsTrue a.tells → offset ≤ length (disk_now b).now
+place_fits a b at offset n bytes wrote is low fits told =
     let o = ap length (wrote.now told) in
     let l = length-overwritten (disk_now a).now at (take n bytes) (fits told) in
     let t = length-take n bytes in

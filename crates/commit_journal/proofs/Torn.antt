@@ -5,7 +5,7 @@ use Rattle.std.proofs.lemmas.List.Elements.{All-push, All-contains_itself}
 use Rattle.std.proofs.lemmas.Bool.{cases_lt}
 use Rattle.std.specs.Prelude.{All, Contains}
 use Rattle.host_port.specs.Host.{Disk, Span, IsOutside, furthest, MayLeave, WrittenPart}
-use Rattle.commit_journal.specs.TornWrites.{IsSettled, Torn, IsWithin, WrittenWithin}
+use Rattle.commit_journal.specs.TornWrites.{IsStable, Torn, IsWithin, WrittenWithin}
 
 none_at : (i : ℕ) → All (λ (s : Span). IsOutside s i) []
 none_at i = λ k d low. absurd (omega arith)
@@ -50,7 +50,7 @@ more_within old mid disk span inner before part within = record {
     farther i (inl low) = inl (omega (arith, low, within.from))
     farther i (inr high) = inr (omega (arith, high, within.to))
 
-module _ (old disk : Disk) (span : Span) (x : List ℕ) (settled : IsSettled old) (part : WrittenWithin old span disk) (left : MayLeave disk x) where
+module _ (old disk : Disk) (span : Span) (x : List ℕ) (settled : IsStable old) (part : WrittenWithin old span disk) (left : MayLeave disk x) where
   stable_is : disk.stable ≡ old.now
   stable_is = part.stable ∙ sym settled.same
 
@@ -80,7 +80,7 @@ module _ (old disk : Disk) (span : Span) (x : List ℕ) (settled : IsSettled old
   }
 
 -- after a sync a crash leaves what is read
-pub left_settled : (disk : Disk) (x : List ℕ) → IsSettled disk → MayLeave disk x → x ≡ disk.now
+pub left_settled : (disk : Disk) (x : List ℕ) → IsStable disk → MayLeave disk x → x ≡ disk.now
 left_settled disk x settled left =
     let same = settled.same in
     let long : length x ≡ length disk.stable = omega (arith, left.no_shorter, left.no_longer, ap (furthest (length disk.stable)) settled.tight) in

@@ -57,12 +57,12 @@ same_forms (f ∷ a) (h ∷ b) s t same closed_s closed_t short_a short_b =
     let more = same_forms a b s t rest closed_s closed_t (rest_of a f short_a) (rest_of b h short_b) in
     (λ i. one i ∷ more i)
 
-pub behind_header : (file : List ℕ) (forms : List (List ℕ)) (place : ℕ) → ReadsTo file forms place → drop 16 file ≡ records forms ++ drop place file
-behind_header file forms place reads =
+pub behind_header : (file : List ℕ) (forms : List (List ℕ)) (offset : ℕ) → ReadsTo file forms offset → drop 16 file ≡ records forms ++ drop offset file
+behind_header file forms offset reads =
     ap (λ (l : List ℕ). drop 16 l)
-    (sym (take-append-drop place file) ∙ ap (λ (l : List ℕ). l ++ drop place file) reads.prefix
-    ∙ append_assoc header (records forms) (drop place file))
-    ∙ drop_at header (records forms ++ drop place file) 16 length-header
+    (sym (take-append-drop offset file) ∙ ap (λ (l : List ℕ). l ++ drop offset file) reads.prefix
+    ∙ append_assoc header (records forms) (drop offset file))
+    ∙ drop_at header (records forms ++ drop offset file) 16 length-header
 
 pub one_reading : (file : List ℕ) (a b : List (List ℕ)) (p q : ℕ) → EndsAt file a p → EndsAt file b q → a ≡ b
 one_reading file a b p q ends_a ends_b =
@@ -73,10 +73,10 @@ one_reading file a b p q ends_a ends_b =
     ends_a.reads.sizes ends_b.reads.sizes
 
 -- what stands for some byte strings and ends after others stands for the same
-pub one_meaning : (file : List ℕ) (first forms : List (List ℕ)) (place : ℕ) → StandsFor file first → EndsAt file forms place → first ≡ forms
-one_meaning file first forms place (inl short) ends =
+pub one_meaning : (file : List ℕ) (first forms : List (List ℕ)) (offset : ℕ) → StandsFor file first → EndsAt file forms offset → first ≡ forms
+one_meaning file first forms offset (inl short) ends =
     short.1 ∙ sym (no_records forms (omega (arith, short.0, ends.in_file, ends.reads.place_is)))
-one_meaning file first forms place (inr long) ends = one_reading file first forms long.1.0 place long.1.1 ends
+one_meaning file first forms offset (inr long) ends = one_reading file first forms long.1.0 offset long.1.1 ends
 
 no_forms : (a b : List (List ℕ)) (s t : List ℕ) (base start : ℕ) → records a ++ s ≡ records b ++ t → start ≡ base + length (records a)
     → (0 < length s → get_or s 0 0 ≡ open_gate)
@@ -117,19 +117,20 @@ stuck_for_all file a b p q reads stuck ends =
     reads.sizes ends.reads.sizes (omega (arith, ends.low, ends.reads.place_is))
 
 -- a file in which a reading is stuck stands for nothing
-pub stuck_for_none : (file : List ℕ) (forms : List (List ℕ)) (place : ℕ) → IsMounted file → ReadsTo file forms place → IsStuck file place → StandsForNone file
-stuck_for_none file forms place mounted reads stuck first (inr long) = stuck_for_all file forms first place long.1.0 reads stuck long.1.1
-stuck_for_none file forms place (inl longer) reads stuck first (inl short) = absurd (omega (arith, longer, short.0))
-stuck_for_none file forms place (inr new) reads stuck first (inl short) =
-    stuck_for_all file forms [] place 16 reads stuck (subst (λ (l : List ℕ). EndsAt l [] 16) (sym new) new_ends)
+pub stuck_for_none : (file : List ℕ) (forms : List (List ℕ)) (offset : ℕ) → IsMounted file → ReadsTo file forms offset → IsStuck file offset
+    → StandsForNone file
+stuck_for_none file forms offset mounted reads stuck first (inr long) = stuck_for_all file forms first offset long.1.0 reads stuck long.1.1
+stuck_for_none file forms offset (inl longer) reads stuck first (inl short) = absurd (omega (arith, longer, short.0))
+stuck_for_none file forms offset (inr new) reads stuck first (inl short) =
+    stuck_for_all file forms [] offset 16 reads stuck (subst (λ (l : List ℕ). EndsAt l [] 16) (sym new) new_ends)
 
 -- a longer file with another header stands for nothing
 pub headless_for_none : (file : List ℕ) (at : ℕ) → 17 < length file → IsNoHeader file at → StandsForNone file
 headless_for_none file at longer none forms (inl short) = absurd (omega (arith, longer, short.0))
 headless_for_none file at longer none forms (inr long) =
-    let place = long.1.0 in
+    let offset = long.1.0 in
     let reads = long.1.1.reads in
     let within = none.within in
     let inside : at < long.1.0 = omega (arith, reads.place_is) in
-    none.differs (sym (get_or-take place file at 0 inside) ∙ ap (λ (l : List ℕ). get_or l at 0) reads.prefix
+    none.differs (sym (get_or-take offset file at 0 inside) ∙ ap (λ (l : List ℕ). get_or l at 0) reads.prefix
     ∙ get_or_append_left header (records forms) 0 at (omega (arith, length-header)))

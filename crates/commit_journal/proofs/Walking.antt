@@ -106,9 +106,9 @@ module _ (file : List ℕ) (gate : ℕ) where
       parts size ∙ ap (λ (l : List ℕ). l ++ (take 4 (drop (gate + 1) file) ++ take size (drop (gate + 5) file))) one
       ∙ ap (λ (l : List ℕ). open_gate ∷ l ++ take size (drop (gate + 5) file)) field_same
       ∙ ap (λ (l : List ℕ). open_gate ∷ four_bytes (length form) ++ l) (sym form_is) in
-      let place : gate + 5 + size ≡ gate + (5 + size) = omega arith in
+      let offset : gate + 5 + size ≡ gate + (5 + size) = omega arith in
       record {
-        prefix = ap (λ (k : ℕ). take k file) place ∙ take-add gate (5 + size) file ∙ ap (λ (l : List ℕ). l ++ take (5 + size) (drop gate file)) reads.prefix
+        prefix = ap (λ (k : ℕ). take k file) offset ∙ take-add gate (5 + size) file ∙ ap (λ (l : List ℕ). l ++ take (5 + size) (drop gate file)) reads.prefix
             ∙ ap (λ (l : List ℕ). (header ++ records forms) ++ l) piece ∙ append_assoc header (records forms) (record_of form)
             ∙ ap (λ (l : List ℕ). header ++ l) (sym (records-push forms form));
         place_is = omega (

@@ -4,7 +4,7 @@ use Rattle.std.specs.Int.{to_be_bytes, w32}
 use Rattle.host_port.specs.Host.{CrashLeaves, Disk, synced}
 use Rattle.page_pool.specs.Frames.{Frames}
 use Rattle.page_pool.specs.Paged.{PagedState, HoldsBytes}
-use Rattle.commit_journal.specs.TornWrites.{IsSettled}
+use Rattle.commit_journal.specs.TornWrites.{IsStable}
 use Rattle.commit_journal.specs.declared.fit.Fit.{Fit}
 use Rattle.commit_journal.specs.declared.fit.Fit.TheVariants.{Yes, TooLarge, Full}
 
@@ -58,21 +58,21 @@ abbrev pub IsShort : List ℕ → Type 0
 IsShort form = length form ≤ most_bytes
 
 -- the file begins with the header and the records of these byte strings, which end at an offset
-pub record ReadsTo (file : List ℕ) (forms : List (List ℕ)) (place : ℕ) : Type 0 where
-  pub prefix : take place file ≡ header ++ records forms
-  pub place_is : place ≡ first_gate + length (records forms)
+pub record ReadsTo (file : List ℕ) (forms : List (List ℕ)) (offset : ℕ) : Type 0 where
+  pub prefix : take offset file ≡ header ++ records forms
+  pub place_is : offset ≡ first_gate + length (records forms)
   pub sizes : All IsShort forms
 
 -- and there stands a closed gate
-pub record EndsAt (file : List ℕ) (forms : List (List ℕ)) (place : ℕ) : Type 0 where
-  pub reads : ReadsTo file forms place
-  pub in_file : place < length file
-  pub closed : slice_index file place ≢ open_gate
-  pub low : place < 2 ^ 40
+pub record EndsAt (file : List ℕ) (forms : List (List ℕ)) (offset : ℕ) : Type 0 where
+  pub reads : ReadsTo file forms offset
+  pub in_file : offset < length file
+  pub closed : slice_index file offset ≢ open_gate
+  pub low : offset < 2 ^ 40
 
 -- the file stands for these byte strings: it has at most 17 bytes and there are none, or its records up to a closed gate are theirs
 abbrev pub StandsFor : List ℕ → List (List ℕ) → Type 0
-StandsFor file forms = ((length file ≤ new_size) × (forms ≡ [])) ⊎ ((new_size < length file) × ((place : ℕ) × EndsAt file forms place))
+StandsFor file forms = ((length file ≤ new_size) × (forms ≡ [])) ⊎ ((new_size < length file) × ((offset : ℕ) × EndsAt file forms offset))
 
 -- the file stands for no list of byte strings
 abbrev pub StandsForNone : List ℕ → Type 0
@@ -87,20 +87,20 @@ abbrev pub IsBeforeOrAfter : List (List ℕ) → List ℕ → List ℕ → Type 
 IsBeforeOrAfter forms form file = StandsFor file forms ⊎ StandsFor file (forms ++ form ∷ [])
 
 -- a closed gate stands there
-pub record IsClosed (file : List ℕ) (place : ℕ) : Type 0 where
-  pub in_file : place < length file
-  pub closed : slice_index file place ≢ open_gate
+pub record IsClosed (file : List ℕ) (offset : ℕ) : Type 0 where
+  pub in_file : offset < length file
+  pub closed : slice_index file offset ≢ open_gate
 
 -- neither a closed gate stands there, nor a whole record whose next gate is below 2^40
-pub record IsStuck (file : List ℕ) (place : ℕ) : Type 0 where
-  pub not_closed : place < length file → slice_index file place ≡ open_gate
-  pub no_record : (form : List ℕ) → IsShort form → place + 5 + length form < 2 ^ 40 → ¬ (take (5 + length form) (drop place file) ≡ record_of form)
+pub record IsStuck (file : List ℕ) (offset : ℕ) : Type 0 where
+  pub not_closed : offset < length file → slice_index file offset ≡ open_gate
+  pub no_record : (form : List ℕ) → IsShort form → offset + 5 + length form < 2 ^ 40 → ¬ (take (5 + length form) (drop offset file) ≡ record_of form)
 
 -- an open gate stands there, then the length of a byte string, and after it so many bytes
-pub record IsOpen (file : List ℕ) (place size : ℕ) : Type 0 where
-  pub opened : slice_index file place ≡ open_gate
-  pub length_is : take 4 (drop (place + 1) file) ≡ four_bytes size
-  pub whole : place + 5 + size ≤ length file
+pub record IsOpen (file : List ℕ) (offset size : ℕ) : Type 0 where
+  pub opened : slice_index file offset ≡ open_gate
+  pub length_is : take 4 (drop (offset + 1) file) ≡ four_bytes size
+  pub whole : offset + 5 + size ≤ length file
 
 -- the first byte that differs from the header
 pub record IsNoHeader (file : List ℕ) (at : ℕ) : Type 0 where
@@ -121,14 +121,14 @@ abbrev pub IsAtMostSynced : Disk → Disk → Type 0
 IsAtMostSynced entry disk = (disk ≡ entry) ⊎ (disk ≡ synced entry)
 
 -- a file while it is read: all of it is stable, and it reads as these byte strings up to an offset
-pub record IsWalked (disk : Disk) (forms : List (List ℕ)) (place : ℕ) : Type 0 where
-  pub settled : IsSettled disk
+pub record IsWalked (disk : Disk) (forms : List (List ℕ)) (offset : ℕ) : Type 0 where
+  pub settled : IsStable disk
   pub mounted : IsMounted disk.now
-  pub reads : ReadsTo disk.now forms place
+  pub reads : ReadsTo disk.now forms offset
 
 -- a journal's file between two calls: all of it is stable, and its records are those of the byte strings
-pub record IsAtRest (disk : Disk) (forms : List (List ℕ)) (end : ℕ) : Type 0 where
-  pub settled : IsSettled disk
+pub record IsJournalAtRest (disk : Disk) (forms : List (List ℕ)) (end : ℕ) : Type 0 where
+  pub settled : IsStable disk
   pub ends : EndsAt disk.now forms end
 
 -- the byte at the gate is as it was and isn't loose, or what stands after it is stable
@@ -144,7 +144,7 @@ pub record JournalState : Type 0 where
 -- What contracts see of a journal that is read. It is the offset of the gate that was opened last, that of the next, and whether
 -- the closed gate was found.
 pub record WalkState : Type 0 where
-  pub place : ℕ
+  pub offset : ℕ
   pub next : ℕ
   pub ended : Bool
 

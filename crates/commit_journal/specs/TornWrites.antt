@@ -3,7 +3,7 @@ use Rattle.std.specs.Prelude.{◌≡◌, ◌⊎◌, ℕ, ◌+◌, ◌<◌, ◌�
 use Rattle.host_port.specs.Host.{Disk, Span, IsOutside, written, synced}
 
 -- nothing was written since the last sync, and the file is as it was then
-pub record IsSettled (disk : Disk) : Type 0 where
+pub record IsStable (disk : Disk) : Type 0 where
   pub tight : disk.loose ≡ []
   pub same : disk.now ≡ disk.stable
 

@@ -48,7 +48,7 @@ pub fn fits(end: u64, n: u64) -> Fit
 /// The offset of the gate after a record of a byte string of `n` bytes, whose own gate is at `gate`.
 pub fn next_gate(gate: u64, n: u64) -> u64
     requires low { next_gate gate n < 2 ^ 40 }
-    ensures place { result ≡ next_gate gate n }
+    ensures offset { result ≡ next_gate gate n }
 {
     gate + 5 + n
 }

@@ -4,7 +4,7 @@ ghost use Rattle.std.specs.Prelude.{◌≡◌, ◌+◌, ◌^◌, ◌<◌, ◌≤
 ghost use Rattle.host_port.specs.Host.{disk_now, Rose, GoesOn, Throughout, KeepsSaid, KeepsInput, RaisesDiskAlone, CrashLeaves};
 ghost use Rattle.page_pool.specs.Frames.{out_of, SameFrames, pool_limit};
 ghost use Rattle.page_pool.specs.Paged.{AreOut, AreFree, KeepsOthers, frames_for};
-ghost use Rattle.commit_journal.specs.Journal.{JournalState, after_gate, four_bytes, IsShort, HoldsRecord, IsReady, IsBeforeOrAfter, IsAtRest, IsGateLast};
+ghost use Rattle.commit_journal.specs.Journal.{JournalState, after_gate, four_bytes, IsShort, HoldsRecord, IsReady, IsBeforeOrAfter, IsJournalAtRest, IsGateLast};
 
 use crate::fit::OPEN_GATE;
 use crate::write::{write_durably, write_pages};
@@ -68,7 +68,7 @@ impl Journal {
 
     /// The offset of the closed gate.
     pub fn end(&self) -> u64
-        ensures place { result ≡ self.now.end }
+        ensures offset { result ≡ self.now.end }
         ensures low { result < 2 ^ 40 }
     {
         self.end
@@ -109,7 +109,7 @@ impl Journal {
     ) -> Result<(), Failed>
         requires whole { self.old.broken ≡ false }
         requires ready { IsReady pool.old prepared self.old.end }
-        requires at_rest { IsTrue (H.told host.old).tells → ((forms : List (List ℕ)) × IsAtRest (disk_now (H.told host.old)) forms self.old.end) }
+        requires at_rest { IsTrue (H.told host.old).tells → ((forms : List (List ℕ)) × IsJournalAtRest (disk_now (H.told host.old)) forms self.old.end) }
 
         ensures ok { OnOk result ((form : List ℕ) → HoldsRecord pool.old prepared form → self.new ≡ record { end = self.old.end + 5 + length form; broken = false }) }
         ensures err { OnErr result (self.new ≡ record { end = self.old.end; broken = true }) }
@@ -124,10 +124,10 @@ impl Journal {
         ensures out { out_of pool.new + length prepared.frames ≡ out_of pool.old }
 
         ensures added { OnOk result (IsTrue (H.told host.old).tells → (form : List ℕ) → HoldsRecord pool.old prepared form
-            → (forms : List (List ℕ)) → IsAtRest (disk_now (H.told host.old)) forms self.old.end
-            → IsAtRest (disk_now (H.told host.new)) (forms ++ form ∷ []) self.new.end) }
+            → (forms : List (List ℕ)) → IsJournalAtRest (disk_now (H.told host.old)) forms self.old.end
+            → IsJournalAtRest (disk_now (H.told host.new)) (forms ++ form ∷ []) self.new.end) }
         ensures any_moment { (form : List ℕ) → HoldsRecord pool.old prepared form
-            → (forms : List (List ℕ)) → IsAtRest (disk_now (H.told host.old)) forms self.old.end
+            → (forms : List (List ℕ)) → IsJournalAtRest (disk_now (H.told host.old)) forms self.old.end
             → Throughout (H.told host.old) (H.told host.new) (λ disk _. CrashLeaves (IsBeforeOrAfter forms form) disk) }
         ensures prefix { Throughout (H.told host.old) (H.told host.new) (λ disk _. take self.old.end disk.now ≡ take self.old.end (disk_now (H.told host.old)).now) }
         ensures gate_last { (form : List ℕ) → HoldsRecord pool.old prepared form

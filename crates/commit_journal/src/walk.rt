@@ -2,7 +2,7 @@
 ghost use Rattle.std.specs.Prelude.{◌≡◌, ◌⊎◌, ◌+◌, ◌^◌, ◌<◌, ◌≤◌, ◌++◌, [], ◌∷◌, List, ℕ, length, IsTrue, IfOk, OnOk, IfErr, IfSome, IfNone, OnErr, IsErrOf, true, false};
 ghost use Rattle.host_port.specs.Host.{disk_now, Rose, GoesOn, Throughout, KeepsDisk, KeepsSaid, KeepsInput, RaisesDiskAlone, CrashLeaves};
 ghost use Rattle.std.specs.Bool.{OnTrue, OnFalse};
-ghost use Rattle.commit_journal.specs.Journal.{WalkState, header, four_bytes, IsWalked, IsClosed, IsStuck, IsOpen, IsNoHeader, IsAtRest, IsShort, IsAtMostSynced, MountedFrom, StandsForSame, StandsForNone, first_gate, most_bytes, new_size};
+ghost use Rattle.commit_journal.specs.Journal.{WalkState, header, four_bytes, IsWalked, IsClosed, IsStuck, IsOpen, IsNoHeader, IsJournalAtRest, IsShort, IsAtMostSynced, MountedFrom, StandsForSame, StandsForNone, first_gate, most_bytes, new_size};
 ghost use Rattle.commit_journal.specs.Walk.{IfDamaged};
 
 use crate::fault::JournalFault;
@@ -22,7 +22,7 @@ const NEW_FILE: [u8; 17] = *b"EMFSTORE\0\0\0\x01\0\0\0\0\0";
 /// A journal that is being read, record by record.
 #[derive(Drop)]
 pub struct Walk {
-    place: u64,
+    offset: u64,
     next: u64,
     ended: bool,
 }
@@ -30,7 +30,7 @@ pub struct Walk {
 impl Model for Walk {
     ghost Value = { WalkState };
 
-    ghost view = { λ w. record { place = w.place; next = w.next; ended = w.ended } };
+    ghost view = { λ w. record { offset = w.offset; next = w.next; ended = w.ended } };
 
     ghost invariant = { λ w. w.next < 2 ^ 40 };
 }
@@ -118,7 +118,7 @@ impl Walk {
     /// Syncs. Then it writes the header and a closed gate where the file has at most 17 bytes, and else looks at
     /// the header. It never answers `Memory`.
     pub fn mount<H: Host>(host: &mut H) -> Result<Walk, JournalFault>
-        ensures ok { IfOk result (λ walk. walk ≡ record { place = first_gate; next = first_gate; ended = false }) }
+        ensures ok { IfOk result (λ walk. walk ≡ record { offset = first_gate; next = first_gate; ended = false }) }
         ensures walked { OnOk result (IsTrue (H.told host.old).tells → IsWalked (disk_now (H.told host.new)) [] first_gate) }
         ensures same { OnOk result (IsTrue (H.told host.old).tells → StandsForSame (disk_now (H.told host.old)).now (disk_now (H.told host.new)).now) }
         ensures any_moment { Throughout (H.told host.old) (H.told host.new)
@@ -151,20 +151,20 @@ impl Walk {
     }
 
     fn start() -> Walk
-        ensures { result ≡ record { place = first_gate; next = first_gate; ended = false } }
+        ensures { result ≡ record { offset = first_gate; next = first_gate; ended = false } }
     {
         Walk {
-            place: FIRST_GATE,
+            offset: FIRST_GATE,
             next: FIRST_GATE,
             ended: false,
         }
     }
 
     /// The offset of the gate that was opened last.
-    pub fn place(&self) -> u64
-        ensures { result ≡ self.now.place }
+    pub fn offset(&self) -> u64
+        ensures { result ≡ self.now.offset }
     {
-        self.place
+        self.offset
     }
 
     /// The next record's byte string, or `None` at the closed gate.
@@ -174,7 +174,7 @@ impl Walk {
         host: &mut H,
     ) -> Result<Option<Vec<u8>>, JournalFault>
         requires walked { IsTrue (H.told host.old).tells → ((forms : List (List ℕ)) × IsWalked (disk_now (H.told host.old)) forms self.old.next) }
-        ensures some { IfOk result (λ next. IfSome next (λ form. (self.new ≡ record { place = self.old.next; next = self.old.next + 5 + length form.items; ended = self.old.ended }) × IsShort form.items)) }
+        ensures some { IfOk result (λ next. IfSome next (λ form. (self.new ≡ record { offset = self.old.next; next = self.old.next + 5 + length form.items; ended = self.old.ended }) × IsShort form.items)) }
         ensures none { IfOk result (λ next. IfNone next (self.new ≡ record self.old { ended = true })) }
         ensures err { OnErr result (self.new ≡ self.old) }
         ensures low { self.new.next < 2 ^ 40 }
@@ -182,7 +182,7 @@ impl Walk {
             → IsWalked (disk_now (H.told host.new)) (forms ++ form.items ∷ []) self.new.next)) }
         ensures closed { IfOk result (λ next. IfNone next (IsTrue (H.told host.old).tells → IsClosed (disk_now (H.told host.old)).now self.old.next)) }
         ensures ended { IfOk result (λ next. IfNone next (IsTrue (H.told host.old).tells → (forms : List (List ℕ)) → IsWalked (disk_now (H.told host.old)) forms self.old.next
-            → IsAtRest (disk_now (H.told host.new)) forms self.new.next)) }
+            → IsJournalAtRest (disk_now (H.told host.new)) forms self.new.next)) }
         ensures damaged { IfErr result (λ fault. IfDamaged fault (λ at. (at ≡ self.old.next) × (IsTrue (H.told host.old).tells → IsStuck (disk_now (H.told host.old)).now at))) }
         ensures nothing { IfErr result (λ fault. IfDamaged fault (λ _. IsTrue (H.told host.old).tells → StandsForNone (disk_now (H.told host.old)).now)) }
         ensures cause { IsErrOf result JournalFault.DiskFault → Rose (H.told host.old).disk_faults (H.told host.new).disk_faults }
@@ -202,7 +202,7 @@ impl Walk {
             Gate::Open { size } => {
                 let mut form = vec![in alloc; 0; size as usize]?;
                 host.read_at(gate + 5, &mut form)?;
-                self.place = gate;
+                self.offset = gate;
                 self.next = gate + 5 + size;
                 Ok(Some(form))
             }

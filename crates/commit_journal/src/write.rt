@@ -8,7 +8,7 @@ use host_port::{Failed, Host};
 use page_pool::{FRAME_SIZE, PagedBytes, Pool};
 
 pub(crate) fn write_durably<H: Host>(host: &mut H, at: u64, bytes: &[u8]) -> Result<(), Failed>
-    requires place { IsTrue (H.told host.old).tells → at ≤ length (disk_now (H.told host.old)).now }
+    requires offset { IsTrue (H.told host.old).tells → at ≤ length (disk_now (H.told host.old)).now }
     requires limit { at + length bytes.now ≤ 2 ^ 40 }
     ensures course { GoesOn (H.told host.old) (H.told host.new) }
     ensures said { KeepsSaid (H.told host.old) (H.told host.new) }
@@ -31,7 +31,7 @@ fn write_pieces<H: Host>(
 ) -> Result<(), Failed>
     requires out { AreOut pool.now paged.now.frames }
     requires count { length paged.now.frames ≡ frames_for paged.now.size }
-    requires place { IsTrue (H.told host.old).tells → at ≤ length (disk_now (H.told host.old)).now }
+    requires offset { IsTrue (H.told host.old).tells → at ≤ length (disk_now (H.told host.old)).now }
     requires limit { at + length (content pool.now paged.now) ≤ 2 ^ 40 }
     ensures course { GoesOn (H.told host.old) (H.told host.new) }
     ensures said { KeepsSaid (H.told host.old) (H.told host.new) }
@@ -57,7 +57,7 @@ pub(crate) fn write_pages<H: Host>(
 ) -> Result<(), Failed>
     requires out { AreOut pool.now paged.now.frames }
     requires count { length paged.now.frames ≡ frames_for paged.now.size }
-    requires place { IsTrue (H.told host.old).tells → at ≤ length (disk_now (H.told host.old)).now }
+    requires offset { IsTrue (H.told host.old).tells → at ≤ length (disk_now (H.told host.old)).now }
     requires limit { at + length (content pool.now paged.now) ≤ 2 ^ 40 }
     ensures course { GoesOn (H.told host.old) (H.told host.new) }
     ensures said { KeepsSaid (H.told host.old) (H.told host.new) }

@@ -2,7 +2,7 @@
 use Rattle.std.proofs.Common.{◌≡◌, ℕ, zero, suc, ◌≤◌, List, [], ◌∷◌, ◌++◌, refl, ap, ◌∙◌, length, take, drop, arith, append-nil}
 use Rattle.ecore_meta.specs.Meta.{Meta}
 use Rattle.model_state.specs.declared.operation.Operation.{Operation}
-use Rattle.footprint.specs.Buckets.{labels, mixed, places, rows, buckets}
+use Rattle.footprint.specs.Buckets.{labels, mixed, places, buckets_below, buckets}
 use Rattle.merge_laws.proofs.Exact.{labels_length}
 
 pub drop_past : {A : Type 0} (xs : List A) (n : ℕ) → length xs ≤ n → drop n xs ≡ []
@@ -15,7 +15,7 @@ mixed_none : (xs : List ℕ) → mixed xs [] ≡ []
 mixed_none [] = refl
 mixed_none (x ∷ xs) = refl
 
-rows_none : (ts : List ℕ) (n : ℕ) → rows ts [] n ≡ []
+rows_none : (ts : List ℕ) (n : ℕ) → buckets_below ts [] n ≡ []
 rows_none ts zero = refl
 rows_none ts (suc n) = ap (λ bs. bs ++ mixed (places n ts) []) (rows_none ts n) ∙ mixed_none (places n ts)
 
@@ -31,5 +31,5 @@ no_mine meta ts [] none =
     let ls = labels meta (ts ++ []) in
     let size = labels_length meta (ts ++ []) in
     let same = ap length (append-nil ts) in
-    ap (λ right. rows (take n ls) right n) (drop_past ls n (omega (arith, size, same))) ∙ rows_none (take n ls) n
+    ap (λ right. buckets_below (take n ls) right n) (drop_past ls n (omega (arith, size, same))) ∙ rows_none (take n ls) n
 no_mine meta ts (m ∷ ms) none = absurd (omega (arith, none))

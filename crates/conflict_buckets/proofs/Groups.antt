@@ -5,14 +5,14 @@ use Rattle.model_state.specs.declared.operation.Operation.{Operation}
 use Rattle.footprint.specs.declared.cell.Print.{Print}
 use Rattle.footprint.specs.Prints.{shown, printed}
 use Rattle.footprint.proofs.Printed.{as_many}
-use Rattle.footprint.specs.Buckets.{labels, rows, buckets}
+use Rattle.footprint.specs.Buckets.{labels, buckets_below, buckets}
 
 pub rows_are : (meta : Meta) (ts ms : List Operation) (found view left right : List ℕ) (n : ℕ) → view ≡ found → found ≡ labels meta (ts ++ ms)
-    → left ≡ take n view → right ≡ drop n view → length left ≡ n → n ≡ length ts → rows left right (length left) ≡ buckets meta ts ms
+    → left ≡ take n view → right ≡ drop n view → length left ≡ n → n ≡ length ts → buckets_below left right (length left) ≡ buckets meta ts ms
 unfolding buckets
 rows_are meta ts ms found view left right n v is l r size long =
     let all = v ∙ is in
-    λ i. rows ((l ∙ (λ t. take (long t) (all t))) i) ((r ∙ (λ t. drop (long t) (all t))) i) ((size ∙ long) i)
+    λ i. buckets_below ((l ∙ (λ t. take (long t) (all t))) i) ((r ∙ (λ t. drop (long t) (all t))) i) ((size ∙ long) i)
 
 -- where the labels of theirs end
 pub split_low : (meta : Meta) (ts ms : List Operation) (prints view : List Print) (found seen : List ℕ) (n : ℕ)

@@ -8,7 +8,7 @@ use Rattle.std.specs.declared.alloc.Global.{Global}
 use Rattle.finite_maps.proofs.EqualLaws.{nat_equality}
 use Rattle.finite_maps.proofs.Cases.{not_so}
 use Rattle.footprint.specs.declared.bucket.Bucket.{Bucket}
-use Rattle.footprint.specs.Buckets.{places, mixed, rows}
+use Rattle.footprint.specs.Buckets.{places, mixed, buckets_below}
 use Rattle.cell_index.specs.Near.{list_at}
 use Rattle.cell_index.proofs.Rows.{at_same, at_other, list_here, same_or_not}
 use Rattle.conflict_buckets.specs.Tables.{IsPut}
@@ -70,8 +70,8 @@ pub places_all : (l : ℕ) (ls : List ℕ) (i : ℕ) (found : List ℕ) → leng
 places_all l ls i found past is = is ∙ ap (places l) (take_all i ls past)
 
 -- ---- one row more
-pub row_on : (ts ms : List ℕ) (n : ℕ) (found made : List Bucket) (left right xs ys : List ℕ) → found ≡ rows ts ms n → made ≡ found ++ mixed left right
-    → left ≡ xs → right ≡ ys → xs ≡ places n ts → ys ≡ places n ms → made ≡ rows ts ms (n + 1)
+pub row_on : (ts ms : List ℕ) (n : ℕ) (found made : List Bucket) (left right xs ys : List ℕ) → found ≡ buckets_below ts ms n → made ≡ found ++ mixed left right
+    → left ≡ xs → right ≡ ys → xs ≡ places n ts → ys ≡ places n ms → made ≡ buckets_below ts ms (n + 1)
 row_on ts ms n found made left right xs ys is put l r x y =
     let e : suc n ≡ n + 1 = omega arith in
-    put ∙ (λ i. is i ++ mixed ((l ∙ x) i) ((r ∙ y) i)) ∙ ap (rows ts ms) e
+    put ∙ (λ i. is i ++ mixed ((l ∙ x) i) ((r ∙ y) i)) ∙ ap (buckets_below ts ms) e

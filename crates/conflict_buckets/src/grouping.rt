@@ -1,6 +1,6 @@
 //! The buckets, by the labels of the operations.
 ghost use Rattle.std.specs.Prelude.{ℕ, ◌≡◌, ◌<◌, ◌++◌, IfOk, OnOk, length};
-ghost use Rattle.footprint.specs.Buckets.{mixed, places, rows, buckets};
+ghost use Rattle.footprint.specs.Buckets.{mixed, places, buckets_below, buckets};
 ghost use Rattle.merge_laws.specs.Classes.{AreClasses};
 ghost use Rattle.merge_laws.specs.Order.{InOrder};
 ghost use Rattle.cell_index.specs.Near.{list_at};
@@ -66,7 +66,7 @@ fn put_row(
 
 /// The components with operations of both sides, by the labels of the two sides.
 fn rows_of(alloc: Global, theirs: &[u64], mine: &[u64]) -> Result<List<Bucket>, AllocError>
-    ensures { IfOk result (λ bs. bs ≡ rows theirs.now mine.now (length theirs.now)) }
+    ensures { IfOk result (λ bs. bs ≡ buckets_below theirs.now mine.now (length theirs.now)) }
 {
     let left = places_by_label(alloc, theirs.len(), theirs)?;
     let right = places_by_label(alloc, theirs.len(), mine)?;

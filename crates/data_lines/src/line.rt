@@ -2,10 +2,10 @@
 ghost use Rattle.std.specs.Prelude.{◌≡◌, ◌++◌, ◌∷◌, [], IfOk, OnOk, true};
 ghost use Rattle.std.specs.Fmt.{decimal};
 ghost use Rattle.ecore_meta.specs.Typing.{fits};
-ghost use Rattle.emfjson_io.specs.Values.{value_text};
+ghost use Rattle.emfjson_values.specs.Values.{value_text};
 
 use ecore_meta::{Metamodel, Scalar, Value};
-use emfjson_io::write_value;
+use emfjson_values::write_value;
 use std::alloc::{AllocError, Global};
 use std::marker::Model;
 use texts::Text;

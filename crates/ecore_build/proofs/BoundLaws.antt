@@ -11,7 +11,7 @@ use Rattle.ecore_build.specs.Faults.{bad_bound, bad_bounds, contains_back, enums
 use Rattle.ecore_build.proofs.NoFault.{fails_at, passes}
 use Rattle.ecore_drafts.specs.Document.{lacks_super}
 use Rattle.ecore_drafts.specs.Drafts.{drafts}
-use Rattle.ecore_drafts.specs.declared.drafts.Draft.{Draft}
+use Rattle.ecore_drafts.specs.declared.drafts.FeatureDraft.{FeatureDraft}
 use Rattle.ecore_drafts.specs.declared.drafts.End.{End}
 use Rattle.ecore_drafts.specs.declared.drafts.End.TheVariants.{Open, Nowhere, At}
 use Rattle.ecore_drafts.specs.declared.drafts.Target.{Target}
@@ -85,7 +85,7 @@ plain_agrees : (e : Bool) (c n : ℕ) (o : Option ℕ) → agrees (cond e (Free 
 plain_agrees true c n o = refl
 plain_agrees false c n o = refl
 
-container_agrees : (ds : List Draft) (c : ℕ) (e : End) (upper : Option ℕ) → contains_back ds e ≡ true → is_one upper ≡ true
+container_agrees : (ds : List FeatureDraft) (c : ℕ) (e : End) (upper : Option ℕ) → contains_back ds e ≡ true → is_one upper ≡ true
     → agrees (container c e) upper ≡ true
 container_agrees ds c Open upper h one = cc
 container_agrees ds c Nowhere upper h one = cc
@@ -101,7 +101,7 @@ and_right true true h k = refl
 and_right true false h k = cc
 and_right false b h k = cc
 
-module _ (ds : List Draft) (d : Draft) where
+module _ (ds : List FeatureDraft) (d : FeatureDraft) where
   -- what bounds that are not refused show
   unrefused : bad_bounds ds d ≡ false → IsAbove (natural d.lower) (upper_in d.upper)
   unrefused h =
@@ -141,14 +141,14 @@ module _ (ds : List Draft) (d : Draft) where
 
 -- ---- the features of a metamodel
 -- a feature is that of the draft at its number
-pub drafted : (P : Feature → Type 0) (g : Draft → Feature) (ds : List Draft) → ((f : ℕ) (d : Draft) → slice_get ds f ≡ Some d → P (g d))
+pub drafted : (P : Feature → Type 0) (g : FeatureDraft → Feature) (ds : List FeatureDraft) → ((f : ℕ) (d : FeatureDraft) → slice_get ds f ≡ Some d → P (g d))
     → (f : ℕ) (x : Feature) → slice_get (map g ds) f ≡ Some x → P x
 drafted P g ds each f x is = by_draft ds f (λ d at. each f d at) is
   where
     same_some : (x y : Feature) → Some x ≡ Some y → x ≡ y
     same_some x y h = cc
 
-    by_draft : (ds : List Draft) (f : ℕ) → ((d : Draft) → slice_get ds f ≡ Some d → P (g d)) → slice_get (map g ds) f ≡ Some x → P x
+    by_draft : (ds : List FeatureDraft) (f : ℕ) → ((d : FeatureDraft) → slice_get ds f ≡ Some d → P (g d)) → slice_get (map g ds) f ≡ Some x → P x
     by_draft [] f each is = cc
     by_draft (d ∷ ds) zero each is = subst P (same_some (g d) x is) (each d refl)
     by_draft (d ∷ ds) (suc f) each is = by_draft ds f each is
@@ -158,13 +158,13 @@ bounded rows none =
     let ds = drafts rows.classifiers in
     let enums = enums_in rows.classifiers in
     let tests = passes rows.classifiers none in
-    let typed = or_parts (list_any (lacks_super rows.classifiers) rows.classifiers) (list_any (λ (d : Draft). is_missing d.target) ds) tests.typed in
+    let typed = or_parts (list_any (lacks_super rows.classifiers) rows.classifiers) (list_any (λ (d : FeatureDraft). is_missing d.target) ds) tests.typed in
     record {
       agree = drafted (λ (x : Feature). agrees x.kind x.upper ≡ true) (feature_from enums ds) ds
           (λ f d is.
           kind_agrees ds d enums d.target
-          (fails_at (λ (d : Draft). is_unsupported d.target) ds tests.read f d is)
-          (fails_at (λ (d : Draft). is_missing d.target) ds typed.1 f d is)
+          (fails_at (λ (d : FeatureDraft). is_unsupported d.target) ds tests.read f d is)
+          (fails_at (λ (d : FeatureDraft). is_missing d.target) ds typed.1 f d is)
           (fails_at (bad_bound ds) ds tests.bounded f d is));
       order = drafted (λ (x : Feature). IsAbove x.lower x.upper) (feature_from enums ds) ds
           (λ f d is. bounds_in_order ds d d.target (fails_at (bad_bound ds) ds tests.bounded f d is));

@@ -20,7 +20,7 @@ use Rattle.ecore_drafts.specs.Supers.{Inside, is_above, supers_of, all_above}
 use Rattle.ecore_meta.specs.Values.{AreShort, literals_at}
 use Rattle.ecore_drafts.specs.declared.rows.ClassRow.{ClassRow}
 use Rattle.ecore_drafts.specs.declared.rows.EnumRow.{EnumRow}
-use Rattle.ecore_drafts.specs.declared.drafts.Draft.{Draft}
+use Rattle.ecore_drafts.specs.declared.drafts.FeatureDraft.{FeatureDraft}
 use Rattle.ecore_drafts.specs.declared.rows.ClassifierRow.TheVariants.{Class, Enum, Plain}
 use Rattle.ecore_drafts.specs.declared.rows.FeatureRow.{FeatureRow}
 use Rattle.ecore_drafts.specs.declared.rows.LiteralRow.{LiteralRow}
@@ -113,7 +113,7 @@ all_append P [] ys p q = q
 all_append P (x ∷ xs) ys p q = (p.0, all_append P xs ys p.1 q)
 
 -- what holds of the draft of any feature holds of all drafts of a document
-pub all_drafts : (P : Draft → Type 0) (all : ClassifierRows) → ((n : ℕ) (f : FeatureRow) → P (draft all n f)) → (n : ℕ) (rows : ClassifierRows)
+pub all_drafts : (P : FeatureDraft → Type 0) (all : ClassifierRows) → ((n : ℕ) (f : FeatureRow) → P (draft all n f)) → (n : ℕ) (rows : ClassifierRows)
     → AllByRecursion P (drafts_from all n rows)
 all_drafts P all each n [] = tt
 all_drafts P all each n (Class c ∷ rows) =

@@ -13,7 +13,7 @@ use Rattle.ecore_meta.specs.Meta.{name_at}
 use Rattle.ecore_meta.specs.Named.{IsNamed, has_slash, is_reserved, is_taken}
 use Rattle.ecore_drafts.specs.Fit.{NamesFit}
 use Rattle.ecore_meta.specs.Names.{Name, has_repeat}
-use Rattle.ecore_drafts.specs.declared.drafts.Draft.{Draft}
+use Rattle.ecore_drafts.specs.declared.drafts.FeatureDraft.{FeatureDraft}
 use Rattle.ecore_build.proofs.BuildLaws.{all_append, classes_at}
 use Rattle.ecore_drafts.proofs.PlaceLaws.{drafts_counted, drafts_from}
 use Rattle.ecore_build.proofs.NoFault.{passes}
@@ -76,33 +76,33 @@ none_at p (xs ∷ fs) none h zero = (or_parts (p xs) (list_any p fs) h).0
 none_at p (xs ∷ fs) none h (suc k) = none_at p fs none (or_parts (p xs) (list_any p fs) h).1 k
 
 -- ---- drafts
-module _ (enums : List EnumOf) (all : List Draft) where
-  same_name : (ds : List Draft) (f : ℕ) → name_at (map (feature_from enums all) ds) f ≡ draft_name ds f
+module _ (enums : List EnumOf) (all : List FeatureDraft) where
+  same_name : (ds : List FeatureDraft) (f : ℕ) → name_at (map (feature_from enums all) ds) f ≡ draft_name ds f
   same_name [] f = refl
   same_name (d ∷ ds) zero = refl
   same_name (d ∷ ds) (suc f) = same_name ds f
 
-  same_names : (ds : List Draft) (fs : List ℕ) → map (name_at (map (feature_from enums all) ds)) fs ≡ map (draft_name ds) fs
+  same_names : (ds : List FeatureDraft) (fs : List ℕ) → map (name_at (map (feature_from enums all) ds)) fs ≡ map (draft_name ds) fs
   same_names ds [] = refl
   same_names ds (f ∷ fs) = λ i. same_name ds f i ∷ same_names ds fs i
 
-class_drafts : (P : Draft → Type 0) (Q : FeatureRow → Type 0) (all : ClassifierRows) → ((n : ℕ) (f : FeatureRow) → Q f → P (draft all n f))
+class_drafts : (P : FeatureDraft → Type 0) (Q : FeatureRow → Type 0) (all : ClassifierRows) → ((n : ℕ) (f : FeatureRow) → Q f → P (draft all n f))
     → (n : ℕ) (fs : List FeatureRow) → AllByRecursion Q fs → AllByRecursion P (map (draft all n) fs)
 class_drafts P Q all h n [] q = tt
 class_drafts P Q all h n (f ∷ fs) q = (h n f q.0, class_drafts P Q all h n fs q.1)
 
 -- ---- no draft has the name of a reserved key
 drafts_named : (all : ClassifierRows) (n : ℕ) (rows : ClassifierRows) → NamesFit rows
-    → AllByRecursion (λ (d : Draft). is_taken d.name ≡ false) (drafts_from all n rows)
+    → AllByRecursion (λ (d : FeatureDraft). is_taken d.name ≡ false) (drafts_from all n rows)
 drafts_named all n [] fit = tt
 drafts_named all n (Class c ∷ rows) fit =
-    all_append (λ (d : Draft). is_taken d.name ≡ false) (map (draft all n) c.features) (drafts_from all (suc n) rows)
-    (class_drafts (λ (d : Draft). is_taken d.name ≡ false) (λ (f : FeatureRow). is_taken f.name ≡ false) all (λ n f q. q) n c.features fit.1)
+    all_append (λ (d : FeatureDraft). is_taken d.name ≡ false) (map (draft all n) c.features) (drafts_from all (suc n) rows)
+    (class_drafts (λ (d : FeatureDraft). is_taken d.name ≡ false) (λ (f : FeatureRow). is_taken f.name ≡ false) all (λ n f q. q) n c.features fit.1)
     (drafts_named all (suc n) rows fit.2)
 drafts_named all n (Enum e ∷ rows) fit = drafts_named all n rows fit
 drafts_named all n (Plain t ∷ rows) fit = drafts_named all n rows fit
 
-name_free : (ds : List Draft) → AllByRecursion (λ (d : Draft). is_taken d.name ≡ false) ds → (f : ℕ) → is_taken (draft_name ds f) ≡ false
+name_free : (ds : List FeatureDraft) → AllByRecursion (λ (d : FeatureDraft). is_taken d.name ≡ false) ds → (f : ℕ) → is_taken (draft_name ds f) ≡ false
 name_free [] h f = refl
 name_free (d ∷ ds) h zero = h.0
 name_free (d ∷ ds) h (suc f) = name_free ds h.1 f
@@ -165,8 +165,8 @@ built_named rows none fit =
     let enums = enums_in all in
     let ds = drafts all in
     let tests = passes all none in
-    let named : AllByRecursion (λ (d : Draft). is_taken d.name ≡ false) ds =
-    subst (AllByRecursion (λ (d : Draft). is_taken d.name ≡ false)) (sym (drafts_counted all)) (drafts_named all 0 all fit) in
+    let named : AllByRecursion (λ (d : FeatureDraft). is_taken d.name ≡ false) ds =
+    subst (AllByRecursion (λ (d : FeatureDraft). is_taken d.name ≡ false)) (sym (drafts_counted all)) (drafts_named all 0 all fit) in
     let single = or_parts (has_repeat (map classifier_name all)) (list_any repeats_within all) tests.named in
     record {
       classes = names_apart 0 (features_of all) all single.0;

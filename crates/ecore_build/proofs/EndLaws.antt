@@ -8,7 +8,7 @@ use Rattle.ecore_drafts.specs.Drafts.{drafts}
 use Rattle.ecore_meta.specs.Ends.{EndsMeet, end_in, is_container, is_containment, owner_of, target_in}
 use Rattle.ecore_build.specs.Faults.{answers, any_from, bad_end, contains_back, fault, is_at, is_self, is_unanswered, enums_in}
 use Rattle.ecore_meta.specs.Typing.{kind_of}
-use Rattle.ecore_drafts.specs.declared.drafts.Draft.{Draft}
+use Rattle.ecore_drafts.specs.declared.drafts.FeatureDraft.{FeatureDraft}
 use Rattle.ecore_drafts.specs.declared.drafts.End.{End}
 use Rattle.ecore_drafts.specs.declared.drafts.End.TheVariants.{Open, Nowhere, At}
 use Rattle.ecore_drafts.specs.declared.drafts.Target.{Target}
@@ -69,11 +69,11 @@ end_is Nowhere g h = cc
 end_is (At n) g h = let same : n ≡ g = cc in ap (λ n. At n) same
 
 -- a reference to class c with the opposite g
-record Ended (d : Draft) (g c : ℕ) : Type 0 where
+record Ended (d : FeatureDraft) (g c : ℕ) : Type 0 where
   pub ends : d.end ≡ At g
   pub goes : d.target ≡ Elements c
 
-module _ (enums : List Enum) (ds : List Draft) (d : Draft) where
+module _ (enums : List Enum) (ds : List FeatureDraft) (d : FeatureDraft) where
   ended : (g : ℕ) → end_in (kind_in enums ds d d.target) ≡ Some g → (c : ℕ) × Ended d g c
   ended g h = by_target d.target refl h
     where
@@ -97,7 +97,7 @@ module _ (enums : List Enum) (ds : List Draft) (d : Draft) where
       (cond (contains_back ds x) (container c x) (cond (int_eq d.upper (negsuc 0)) (Free c (end_number x)) (Bounded c (end_number x))))) p.ends
 
 -- a reference and its opposite, of which at most one is a containment
-record Answered (ds : List Draft) (f : ℕ) (d : Draft) (g : ℕ) (other : Draft) : Type 0 where
+record Answered (ds : List FeatureDraft) (f : ℕ) (d : FeatureDraft) (g : ℕ) (other : FeatureDraft) : Type 0 where
   pub there : slice_get ds g ≡ Some other
   pub here : Ended d g other.owner
   pub back : Ended other f d.owner
@@ -107,12 +107,12 @@ not_true : (b : Bool) → not b ≡ true → b ≡ false
 not_true true h = cc
 not_true false h = refl
 
-answered : (ds : List Draft) → any_from (is_unanswered ds) 0 ds ≡ false → (f : ℕ) (d : Draft) → slice_get ds f ≡ Some d → (g c : ℕ) → Ended d g c
-    → (other : Draft) × Answered ds f d g other
+answered : (ds : List FeatureDraft) → any_from (is_unanswered ds) 0 ds ≡ false → (f : ℕ) (d : FeatureDraft) → slice_get ds f ≡ Some d → (g c : ℕ) → Ended d g c
+    → (other : FeatureDraft) × Answered ds f d g other
 answered ds none f d is g c p =
     by_other (slice_get ds g) refl (not_false _ (subst (λ e. bad_end ds f d e ≡ false) p.ends (none_at (is_unanswered ds) ds none f d is)))
   where
-    by_other : (o : Option Draft) → slice_get ds g ≡ o → answers f d o ≡ true → (other : Draft) × Answered ds f d g other
+    by_other : (o : Option FeatureDraft) → slice_get ds g ≡ o → answers f d o ≡ true → (other : FeatureDraft) × Answered ds f d g other
     by_other None at h = cc
     by_other (Some other) at h =
         let named = and_two _ _ h in
@@ -139,7 +139,7 @@ at_most_one false true h = refl
 at_most_one false false h = refl
 
 module _ (rows : MetaRows) (none : fault rows.classifiers ≡ None) where
-  abbrev ds : List Draft
+  abbrev ds : List FeatureDraft
   ds = drafts rows.classifiers
 
   abbrev enums : List Enum
@@ -147,24 +147,24 @@ module _ (rows : MetaRows) (none : fault rows.classifiers ≡ None) where
 
   -- what an opposite shows
   opposed : (P : Type 0) (f g : ℕ) → end_in (kind_of (meta_of rows) f) ≡ Some g
-      → ((d other : Draft) → slice_get ds f ≡ Some d → Answered ds f d g other → P) → P
+      → ((d other : FeatureDraft) → slice_get ds f ≡ Some d → Answered ds f d g other → P) → P
   opposed P f g h more = by_draft (slice_get ds f) refl
     where
-      by_draft : (o : Option Draft) → slice_get ds f ≡ o → P
+      by_draft : (o : Option FeatureDraft) → slice_get ds f ≡ o → P
       by_draft None is =
           let e : None ≡ Some g =
           ap end_in (sym (got_of (λ (x : Feature). x.kind) (feature_from enums ds) ds f
-          ∙ ap (λ o. option_map_or (λ (x : Draft). kind_in enums ds x x.target) o Skip) is)) ∙ h in cc
+          ∙ ap (λ o. option_map_or (λ (x : FeatureDraft). kind_in enums ds x x.target) o Skip) is)) ∙ h in cc
       by_draft (Some d) is =
           let p = ended enums ds d g (ap end_in (sym (kind_at rows none f d is)) ∙ h) in
           let a = answered ds (all_answer rows none) f d is g p.0 p.1 in
           more d a.0 is a.1
 
-  kind_here : (f g : ℕ) (d other : Draft) → slice_get ds f ≡ Some d → Answered ds f d g other
+  kind_here : (f g : ℕ) (d other : FeatureDraft) → slice_get ds f ≡ Some d → Answered ds f d g other
       → kind_of (meta_of rows) f ≡ kind_as d.containment (contains_back ds (At g)) (int_eq d.upper (negsuc 0)) other.owner g
   kind_here f g d other is a = kind_at rows none f d is ∙ ended_kind enums ds d g other.owner a.here
 
-  kind_back : (f g : ℕ) (d other : Draft) → Answered ds f d g other
+  kind_back : (f g : ℕ) (d other : FeatureDraft) → Answered ds f d g other
       → kind_of (meta_of rows) g ≡ kind_as other.containment (contains_back ds (At f)) (int_eq other.upper (negsuc 0)) d.owner f
   kind_back f g d other a = kind_at rows none g other a.there ∙ ended_kind enums ds other f d.owner a.back
 
@@ -178,12 +178,12 @@ module _ (rows : MetaRows) (none : fault rows.classifiers ≡ None) where
         opposed (target_in (kind_of (meta_of rows) f) ≡ owner_of (meta_of rows) g) f g h
         (λ d other is a.
         ap target_in (kind_here f g d other is a) ∙ as_target d.containment _ _ other.owner g
-        ∙ sym (owner_at (λ (x : Feature). x.owner) (feature_from enums ds) ds g ∙ ap (option_map (λ (x : Draft). x.owner)) a.there));
+        ∙ sym (owner_at (λ (x : Feature). x.owner) (feature_from enums ds) ds g ∙ ap (option_map (λ (x : FeatureDraft). x.owner)) a.there));
     around = λ f g h.
         opposed (is_containment (kind_of (meta_of rows) f) ≡ is_container (kind_of (meta_of rows) g)) f g h
         (λ d other is a.
         ap is_containment (kind_here f g d other is a) ∙ as_containment d.containment _ _ other.owner g
         ∙ at_most_one d.containment other.containment a.one
-        ∙ ap (λ b. not other.containment && b) (sym (ap (λ o. option_map_or (λ (x : Draft). x.containment) o false) is))
+        ∙ ap (λ b. not other.containment && b) (sym (ap (λ o. option_map_or (λ (x : FeatureDraft). x.containment) o false) is))
         ∙ sym (ap is_container (kind_back f g d other a) ∙ as_container other.containment _ _ d.owner f));
   }

@@ -11,7 +11,7 @@ use Rattle.ecore_build.specs.declared.fault.MetaFault.TheVariants.{SuperCycle, U
 use Rattle.ecore_drafts.specs.Document.{ClassifierRows, supers_in}
 use Rattle.ecore_drafts.specs.Drafts.{drafts}
 use Rattle.ecore_drafts.specs.Supers.{super_cycle}
-use Rattle.ecore_drafts.specs.declared.drafts.Draft.{Draft}
+use Rattle.ecore_drafts.specs.declared.drafts.FeatureDraft.{FeatureDraft}
 
 -- each of the nine tests fails
 pub record Passes (rows : ClassifierRows) : Type 0 where
@@ -54,19 +54,19 @@ passes rows none =
     }
 
 -- a test that no draft passes fails at each
-pub fails_at : (p : Draft → Bool) (ds : List Draft) → list_any p ds ≡ false → (k : ℕ) (d : Draft) → slice_get ds k ≡ Some d → p d ≡ false
+pub fails_at : (p : FeatureDraft → Bool) (ds : List FeatureDraft) → list_any p ds ≡ false → (k : ℕ) (d : FeatureDraft) → slice_get ds k ≡ Some d → p d ≡ false
 fails_at p [] h k d is = cc
 fails_at p (e ∷ ds) h zero d is = subst (λ x. p x ≡ false) (same_some e d is) (or_parts (p e) (list_any p ds) h).0
   where
-    same_some : (x y : Draft) → Some x ≡ Some y → x ≡ y
+    same_some : (x y : FeatureDraft) → Some x ≡ Some y → x ≡ y
     same_some x y h = cc
 fails_at p (e ∷ ds) h (suc k) d is = fails_at p ds (or_parts (p e) (list_any p ds) h).1 k d is
 
 -- what holds of every draft holds of the one at a number
-pub holds_at : (P : Draft → Type 0) (ds : List Draft) → AllByRecursion P ds → (k : ℕ) (d : Draft) → slice_get ds k ≡ Some d → P d
+pub holds_at : (P : FeatureDraft → Type 0) (ds : List FeatureDraft) → AllByRecursion P ds → (k : ℕ) (d : FeatureDraft) → slice_get ds k ≡ Some d → P d
 holds_at P [] h k d is = cc
 holds_at P (e ∷ ds) h zero d is = subst P (same_some e d is) h.0
   where
-    same_some : (x y : Draft) → Some x ≡ Some y → x ≡ y
+    same_some : (x y : FeatureDraft) → Some x ≡ Some y → x ≡ y
     same_some x y h = cc
 holds_at P (e ∷ ds) h (suc k) d is = holds_at P ds h.1 k d is

@@ -14,7 +14,7 @@ use Rattle.ecore_meta.specs.Meta.{Meta, features_of as class_features, has_featu
 use Rattle.ecore_meta.specs.declared.meta.Feature.{Feature}
 use Rattle.ecore_drafts.specs.Supers.{is_above}
 use Rattle.ecore_meta.specs.Promised.{ListsDeclared}
-use Rattle.ecore_drafts.specs.declared.drafts.Draft.{Draft}
+use Rattle.ecore_drafts.specs.declared.drafts.FeatureDraft.{FeatureDraft}
 use Rattle.ecore_meta.specs.declared.meta.Class.{Class as Made}
 use Rattle.ecore_drafts.specs.declared.rows.FeatureRow.{FeatureRow}
 use Rattle.ecore_drafts.specs.declared.rows.MetaRows.{MetaRows}
@@ -55,7 +55,7 @@ got_test h g [] k = refl
 got_test h g (x ∷ xs) zero = refl
 got_test h g (x ∷ xs) (suc k) = got_test h g xs k
 
-low_draft : (ds : List Draft) (f : ℕ) (h : Draft → Bool) → option_map_or h (slice_get ds f) false ≡ true → f < length ds
+low_draft : (ds : List FeatureDraft) (f : ℕ) (h : FeatureDraft → Bool) → option_map_or h (slice_get ds f) false ≡ true → f < length ds
 low_draft [] f h e = cc
 low_draft (x ∷ xs) zero h e = omega arith
 low_draft (x ∷ xs) (suc f) h e = let more = low_draft xs f h e in omega (arith, more)
@@ -105,8 +105,8 @@ flat_first g true n xs = refl
 flat_first g false n xs = refl
 
 -- a feature of the first class has that class as its owner
-own_draft : (all : ClassifierRows) (n : ℕ) (fs : List FeatureRow) (rest : List Draft) (k : ℕ) → k < length fs
-    → (d : Draft) × (slice_get (map (draft all n) fs ++ rest) k ≡ Some d) × (d.owner ≡ n)
+own_draft : (all : ClassifierRows) (n : ℕ) (fs : List FeatureRow) (rest : List FeatureDraft) (k : ℕ) → k < length fs
+    → (d : FeatureDraft) × (slice_get (map (draft all n) fs ++ rest) k ≡ Some d) × (d.owner ≡ n)
 own_draft all n [] rest k h = absurd (omega arith)
 own_draft all n (x ∷ fs) rest zero h = (draft all n x, refl, refl)
 own_draft all n (x ∷ fs) rest (suc k) h = own_draft all n fs rest k (omega arith)
@@ -114,7 +114,7 @@ own_draft all n (x ∷ fs) rest (suc k) h = own_draft all n fs rest k (omega ari
 -- what the classes that pass declare, class by class, is by number what a class that passes declares
 gathered_is : (all : ClassifierRows) (P : ℕ → Bool) (g : ℕ → List ℕ) (test : ℕ → Bool) (n f : ℕ) (rows : ClassifierRows)
     → ((b : ℕ) → g (n + b) ≡ own_of (own_features_from f rows) b)
-    → ((k : ℕ) (d : Draft) → slice_get (drafts_from all n rows) k ≡ Some d → test (f + k) ≡ P d.owner)
+    → ((k : ℕ) (d : FeatureDraft) → slice_get (drafts_from all n rows) k ≡ Some d → test (f + k) ≡ P d.owner)
     → flat_map g (filter P (range_with_len n (length (supers_in all rows)))) ≡ filter test (range_with_len f (length (drafts_from all n rows)))
 gathered_is all P g test n f [] h t = refl
 gathered_is all P g test n f (Class c ∷ rows) h t =
@@ -132,10 +132,10 @@ gathered_is all P g test n f (Class c ∷ rows) h t =
     ∙ ap (filter test) (sym (range_append f (length c.features) (length later)))
     ∙ ap (λ k. filter test (range_with_len f k)) (ap (λ k. k + length later) (sym long) ∙ sym (length-append own later))
   where
-    own : List Draft
+    own : List FeatureDraft
     own = map (draft all n) c.features
 
-    later : List Draft
+    later : List FeatureDraft
     later = drafts_from all (suc n) rows
 
     long : length own ≡ length c.features
@@ -159,7 +159,8 @@ class_is : (all : ClassifierRows) (c : ℕ) → inherited (supers_in all all) (o
 unfolding inherited
 class_is all c =
     gathered_is all above (own_of own) declares 0 0 all (λ b. ap (own_of own) (none_more b))
-    (λ k d is. ap declares (none_more k) ∙ ap (λ o. option_map_or (λ (d : Draft). above d.owner) o false) (ap (λ ds. slice_get ds k) (drafts_counted all) ∙ is))
+    (λ k d is. ap declares (none_more k)
+    ∙ ap (λ o. option_map_or (λ (d : FeatureDraft). above d.owner) o false) (ap (λ ds. slice_get ds k) (drafts_counted all) ∙ is))
     ∙ ap (λ k. filter declares (range_with_len 0 k)) (sym (ap length (drafts_counted all)))
   where
     own : List (List ℕ)
@@ -174,7 +175,7 @@ class_is all c =
     none_more : (n : ℕ) → 0 + n ≡ n
     none_more n = omega arith
 
-owner_low : (all : ClassifierRows) (n : ℕ) (rows : ClassifierRows) (k : ℕ) (d : Draft) → slice_get (drafts_from all n rows) k ≡ Some d
+owner_low : (all : ClassifierRows) (n : ℕ) (rows : ClassifierRows) (k : ℕ) (d : FeatureDraft) → slice_get (drafts_from all n rows) k ≡ Some d
     → d.owner < n + length (supers_in all rows)
 owner_low all n [] k d h = cc
 owner_low all n (Class c ∷ rows) k d h = part (λ j. owner_low all (suc n) rows j d) c.features k h
@@ -185,14 +186,14 @@ owner_low all n (Class c ∷ rows) k d h = part (λ j. owner_low all (suc n) row
     part on [] k h = let more = on k h in omega (arith, more)
     part on (x ∷ fs) zero h = owner (draft all n x) d h (omega arith)
       where
-        owner : (x d : Draft) → Some x ≡ Some d → x.owner < n + suc (length (supers_in all rows)) → d.owner < n + suc (length (supers_in all rows))
+        owner : (x d : FeatureDraft) → Some x ≡ Some d → x.owner < n + suc (length (supers_in all rows)) → d.owner < n + suc (length (supers_in all rows))
         owner x d h e = let same : x ≡ d = cc in subst (λ y. y.owner < n + suc (length (supers_in all rows))) same e
     part on (x ∷ fs) (suc k) h = part on fs k h
 owner_low all n (Enum r ∷ rows) k d h = owner_low all n rows k d h
 owner_low all n (Plain t ∷ rows) k d h = owner_low all n rows k d h
 
 -- the class that declares a feature is one of the document
-pub owner_below : (all : ClassifierRows) (f : ℕ) (d : Draft) → slice_get (drafts all) f ≡ Some d → d.owner < length (supers_in all all)
+pub owner_below : (all : ClassifierRows) (f : ℕ) (d : FeatureDraft) → slice_get (drafts all) f ≡ Some d → d.owner < length (supers_in all all)
 owner_below all f d is = let low = owner_low all 0 all f d (ap (λ ds. slice_get ds f) (sym (drafts_counted all)) ∙ is) in omega (arith, low)
 
 pub listed_is : (all : ClassifierRows) → all_inherited (supers_in all all) (own_features all) ≡ features_of all
@@ -226,10 +227,10 @@ no_class all n fs (Class r ∷ rows) (suc c) h = no_class all (n + 1) fs rows c 
 no_class all n fs (Enum e ∷ rows) c h = no_class all n fs rows c h
 no_class all n fs (Plain t ∷ rows) c h = no_class all n fs rows c h
 
-none_declared : (supers : List (List ℕ)) (ds : List Draft) (c : ℕ) → length supers ≤ c → (f : ℕ) → is_declared supers ds c f ≡ false
+none_declared : (supers : List (List ℕ)) (ds : List FeatureDraft) (c : ℕ) → length supers ≤ c → (f : ℕ) → is_declared supers ds c f ≡ false
 none_declared supers ds c h f = by_draft (slice_get ds f)
   where
-    by_draft : (o : Option Draft) → option_map_or (λ (d : Draft). is_above supers c d.owner) o false ≡ false
+    by_draft : (o : Option FeatureDraft) → option_map_or (λ (d : FeatureDraft). is_above supers c d.owner) o false ≡ false
     by_draft None = refl
     by_draft (Some d) = above_none supers c d.owner h
 
@@ -261,13 +262,13 @@ is_a_is rows c d = table_is (supers_in rows.classifiers rows.classifiers) (super
 pub lists_declared : (rows : MetaRows) → ListsDeclared (meta_of rows)
 lists_declared rows c =
     class_features_are rows c
-    ∙ (λ i. filter (λ f. option_map_or (λ (d : Draft). sym (is_a_is rows c d.owner) i) (slice_get ds f) false) (range_with_len 0 (length ds)))
+    ∙ (λ i. filter (λ f. option_map_or (λ (d : FeatureDraft). sym (is_a_is rows c d.owner) i) (slice_get ds f) false) (range_with_len 0 (length ds)))
     ∙ (λ i. filter (λ f. sym (got_test (λ (feature : Feature). is_a (meta_of rows) c feature.owner) g ds f) i) (range_with_len 0 (sym (length-map ds g) i)))
   where
-    ds : List Draft
+    ds : List FeatureDraft
     ds = drafts rows.classifiers
 
-    g : Draft → Feature
+    g : FeatureDraft → Feature
     g = feature_from (enums_in rows.classifiers) ds
 
 has_any : (meta : Meta) (c f : ℕ) → has_feature meta c f ≡ list_any (nat_eq f) (class_features meta c)
@@ -279,11 +280,11 @@ has_any meta c f = elim (slice_get meta.classes c) as (λ x.
     ]
 
 -- a class has a feature exactly where the class that declares it is that class or above it
-pub has_is : (rows : MetaRows) (c f : ℕ) (d : Draft) → slice_get (drafts rows.classifiers) f ≡ Some d
+pub has_is : (rows : MetaRows) (c f : ℕ) (d : FeatureDraft) → slice_get (drafts rows.classifiers) f ≡ Some d
     → has_feature (meta_of rows) c f ≡ is_a (meta_of rows) c d.owner
 has_is rows c f d is =
     let supers = supers_in rows.classifiers rows.classifiers in
     let ds = drafts rows.classifiers in
     has_any (meta_of rows) c f ∙ ap (list_any (nat_eq f)) (class_features_are rows c)
-    ∙ in_kept (is_declared supers ds c) (length ds) f (low_draft ds f (λ (d : Draft). is_above supers c d.owner))
-    ∙ ap (λ x. option_map_or (λ (d : Draft). is_above supers c d.owner) x false) is ∙ sym (is_a_is rows c d.owner)
+    ∙ in_kept (is_declared supers ds c) (length ds) f (low_draft ds f (λ (d : FeatureDraft). is_above supers c d.owner))
+    ∙ ap (λ x. option_map_or (λ (d : FeatureDraft). is_above supers c d.owner) x false) is ∙ sym (is_a_is rows c d.owner)

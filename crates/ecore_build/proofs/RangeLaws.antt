@@ -15,7 +15,7 @@ use Rattle.ecore_build.proofs.OwnerLaws.{owner_below}
 use Rattle.ecore_build.proofs.SoundLaws.{got_of, kind_at}
 use Rattle.ecore_drafts.specs.Document.{ClassifierRows, class_number, enum_number, enums_of, is_data_type, is_empty_at, supers_in}
 use Rattle.ecore_drafts.specs.Drafts.{class_target, drafts, ecore_scalar, enum_target, own_scalar, target_of, value_target}
-use Rattle.ecore_drafts.specs.declared.drafts.Draft.{Draft}
+use Rattle.ecore_drafts.specs.declared.drafts.FeatureDraft.{FeatureDraft}
 use Rattle.ecore_drafts.specs.declared.drafts.End.{End}
 use Rattle.ecore_drafts.specs.declared.drafts.End.TheVariants.{Open, Nowhere, At}
 use Rattle.ecore_drafts.specs.declared.drafts.Target.{Target}
@@ -97,11 +97,11 @@ known all f =
     picked (Known all) f.skipped Skipped (cond f.is_reference (class_target all f.target) (value_target all f.target)) tt
     (picked (Known all) f.is_reference (class_target all f.target) (value_target all f.target) (known_target all f.target) (known_value all f.target))
 
-all_known : (all : ClassifierRows) (k : ℕ) (d : Draft) → slice_get (drafts all) k ≡ Some d → Known all d.target
+all_known : (all : ClassifierRows) (k : ℕ) (d : FeatureDraft) → slice_get (drafts all) k ≡ Some d → Known all d.target
 all_known all k d is =
-    holds_at (λ (d : Draft). Known all d.target) (drafts all)
-    (subst (AllByRecursion (λ (d : Draft). Known all d.target)) (sym (drafts_counted all))
-    (all_drafts (λ (d : Draft). Known all d.target) all (λ n f. known all f) 0 all)) k d is
+    holds_at (λ (d : FeatureDraft). Known all d.target) (drafts all)
+    (subst (AllByRecursion (λ (d : FeatureDraft). Known all d.target)) (sym (drafts_counted all))
+    (all_drafts (λ (d : FeatureDraft). Known all d.target) all (λ n f. known all f) 0 all)) k d is
 
 -- ---- what a kind shows of its draft's type
 some_same : {X : Type 0} (x y : X) → Some x ≡ Some y → x ≡ y
@@ -125,7 +125,7 @@ container_scalar n Open = refl
 container_scalar n Nowhere = refl
 container_scalar n (At g) = refl
 
-module _ (ds : List Draft) (d : Draft) where
+module _ (ds : List FeatureDraft) (d : FeatureDraft) where
   reference_target : (n c : ℕ) → target_in (reference ds d n) ≡ Some c → n ≡ c
   reference_target n c h = by_tests d.containment (contains_back ds d.end) (int_eq d.upper (negsuc 0)) h
     where
@@ -247,26 +247,27 @@ module _ (rows : MetaRows) (none : fault rows.classifiers ≡ None) where
   abbrev all : ClassifierRows
   all = rows.classifiers
 
-  abbrev ds : List Draft
+  abbrev ds : List FeatureDraft
   ds = drafts rows.classifiers
 
   abbrev enums : List Enum
   enums = enums_in rows.classifiers
 
   -- what holds of the kind of each draft, and of a skipped feature, holds of each kind
-  each_kind : (P : Kind → Type 0) → P Skip → ((d : Draft) → Known all d.target → P (kind_in enums ds d d.target)) → (f : ℕ) → P (kind_of (meta_of rows) f)
+  each_kind : (P : Kind → Type 0) → P Skip → ((d : FeatureDraft) → Known all d.target → P (kind_in enums ds d d.target)) → (f : ℕ)
+      → P (kind_of (meta_of rows) f)
   each_kind P skip each f = by_draft (slice_get ds f) refl
     where
-      by_draft : (o : Option Draft) → slice_get ds f ≡ o → P (kind_of (meta_of rows) f)
+      by_draft : (o : Option FeatureDraft) → slice_get ds f ≡ o → P (kind_of (meta_of rows) f)
       by_draft None is = subst P
           (sym (got_of (λ (x : Feature). x.kind) (feature_from enums ds) ds f
-          ∙ ap (λ o. option_map_or (λ (x : Draft). kind_in enums ds x x.target) o Skip) is)) skip
+          ∙ ap (λ o. option_map_or (λ (x : FeatureDraft). kind_in enums ds x x.target) o Skip) is)) skip
       by_draft (Some d) is = subst P (sym (kind_at rows none f d is)) (each d (all_known all f d is))
 
-  has_literal : (d : Draft) (s : Scalar) → Known all d.target → d.target ≡ Values s → (e : ℕ) → s ≡ LiteralType e → 0 < literal_count (meta_of rows) e
+  has_literal : (d : FeatureDraft) (s : Scalar) → Known all d.target → d.target ≡ Values s → (e : ℕ) → s ≡ LiteralType e → 0 < literal_count (meta_of rows) e
   has_literal d s known is e same = subst (Known all) (is ∙ ap (λ s. Values s) same) known
 
-  default_is : (d : Draft) (s : Scalar) (v : Value) → d.target ≡ Values s → kind_in enums ds d d.target ≡ Attr s (Some v)
+  default_is : (d : FeatureDraft) (s : Scalar) (v : Value) → d.target ≡ Values s → kind_in enums ds d d.target ≡ Attr s (Some v)
       → default_in enums s d.default_text ≡ Some v
   default_is d s v is h = attribute_default (int_eq d.upper (pos 1)) d.unique s s (default_in enums s d.default_text) v (sym (ap (kind_in enums ds d) is) ∙ h)
 

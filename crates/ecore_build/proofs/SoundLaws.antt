@@ -9,7 +9,7 @@ use Rattle.ecore_build.specs.Faults.{answers, any_from, bad_end, contains_back, 
 use Rattle.ecore_meta.specs.Meta.{Meta, has_feature, is_a}
 use Rattle.ecore_meta.specs.Sound.{Sound}
 use Rattle.ecore_meta.specs.Typing.{kind_of, links, opposite_in, opposite_of, plain_to}
-use Rattle.ecore_drafts.specs.declared.drafts.Draft.{Draft}
+use Rattle.ecore_drafts.specs.declared.drafts.FeatureDraft.{FeatureDraft}
 use Rattle.ecore_drafts.specs.declared.drafts.Target.{Target}
 use Rattle.ecore_drafts.specs.declared.drafts.Target.TheVariants.{Skipped, Unsupported, Missing, Elements, Values}
 use Rattle.ecore_drafts.specs.declared.drafts.End.{End}
@@ -28,11 +28,12 @@ or_neither true b h = cc
 or_neither false b h = (refl, h)
 
 -- a test that no feature passes fails at each
-none_from : (p : ℕ → Draft → Bool) (n : ℕ) (ds : List Draft) → any_from p n ds ≡ false → (k : ℕ) (d : Draft) → slice_get ds k ≡ Some d → p (n + k) d ≡ false
+none_from : (p : ℕ → FeatureDraft → Bool) (n : ℕ) (ds : List FeatureDraft) → any_from p n ds ≡ false → (k : ℕ) (d : FeatureDraft)
+    → slice_get ds k ≡ Some d → p (n + k) d ≡ false
 none_from p n [] h k d is = cc
 none_from p n (e ∷ ds) h zero d is = ap (λ i. p i d) (plus_none n) ∙ subst (λ x. p n x ≡ false) (same_some e d is) (or_neither (p n e) _ h).0
   where
-    same_some : (x y : Draft) → Some x ≡ Some y → x ≡ y
+    same_some : (x y : FeatureDraft) → Some x ≡ Some y → x ≡ y
     same_some x y h = cc
 
     plus_none : (n : ℕ) → n + 0 ≡ n
@@ -42,14 +43,15 @@ none_from p n (e ∷ ds) h (suc k) d is = ap (λ i. p i d) (plus_one n k) ∙ no
     plus_one : (n k : ℕ) → n + suc k ≡ suc n + k
     plus_one n k = omega arith
 
-pub none_at : (p : ℕ → Draft → Bool) (ds : List Draft) → any_from p 0 ds ≡ false → (k : ℕ) (d : Draft) → slice_get ds k ≡ Some d → p k d ≡ false
+pub none_at : (p : ℕ → FeatureDraft → Bool) (ds : List FeatureDraft) → any_from p 0 ds ≡ false → (k : ℕ) (d : FeatureDraft) → slice_get ds k ≡ Some d
+    → p k d ≡ false
 none_at p ds h k d is = ap (λ i. p i d) (plus k) ∙ none_from p 0 ds h k d is
   where
     plus : (k : ℕ) → k ≡ 0 + k
     plus k = omega arith
 
 -- a plain reference to class c with the opposite g
-record Paired (ds : List Draft) (d : Draft) (g c : ℕ) : Type 0 where
+record Paired (ds : List FeatureDraft) (d : FeatureDraft) (g c : ℕ) : Type 0 where
   pub ends : d.end ≡ At g
   pub goes : d.target ≡ Elements c
   pub holds_none : d.containment ≡ false
@@ -64,21 +66,21 @@ no_value : (b : Bool) (x y : Kind) (g : ℕ) → opposite_in x ≡ None → oppo
 no_value true x y g h k m = let e : None ≡ Some g = sym h ∙ m in cc
 no_value false x y g h k m = let e : None ≡ Some g = sym k ∙ m in cc
 
-plain_opposite : (d : Draft) (c : ℕ) → opposite_in (plain d c) ≡ end_number d.end
+plain_opposite : (d : FeatureDraft) (c : ℕ) → opposite_in (plain d c) ≡ end_number d.end
 plain_opposite d c = by_bound (int_eq d.upper (negsuc 0))
   where
     by_bound : (b : Bool) → opposite_in (cond b (Free c (end_number d.end)) (Bounded c (end_number d.end))) ≡ end_number d.end
     by_bound true = refl
     by_bound false = refl
 
-plain_goes : (meta : Meta) (d : Draft) (c x : ℕ) → plain_to meta (plain d c) x ≡ is_a meta x c
+plain_goes : (meta : Meta) (d : FeatureDraft) (c x : ℕ) → plain_to meta (plain d c) x ≡ is_a meta x c
 plain_goes meta d c x = by_bound (int_eq d.upper (negsuc 0))
   where
     by_bound : (b : Bool) → plain_to meta (cond b (Free c (end_number d.end)) (Bounded c (end_number d.end))) x ≡ is_a meta x c
     by_bound true = refl
     by_bound false = refl
 
-module _ (enums : List Enum) (ds : List Draft) (d : Draft) where
+module _ (enums : List Enum) (ds : List FeatureDraft) (d : FeatureDraft) where
   paired_kind : (g c : ℕ) → Paired ds d g c → kind_in enums ds d d.target ≡ plain d c
   paired_kind g c p =
       ap (kind_in enums ds d) p.goes
@@ -133,17 +135,18 @@ and_two true b h = (refl, h)
 and_two false b h = cc
 
 -- the opposite of a plain reference, which names it back
-record Mirrored (ds : List Draft) (f : ℕ) (d : Draft) (g : ℕ) (other : Draft) : Type 0 where
+record Mirrored (ds : List FeatureDraft) (f : ℕ) (d : FeatureDraft) (g : ℕ) (other : FeatureDraft) : Type 0 where
   pub there : slice_get ds g ≡ Some other
   pub here : Paired ds d g other.owner
   pub back : Paired ds other f d.owner
 
-mirrored : (ds : List Draft) → any_from (is_unanswered ds) 0 ds ≡ false → (f : ℕ) (d : Draft) → slice_get ds f ≡ Some d → (g c : ℕ) → Paired ds d g c
-    → (other : Draft) × Mirrored ds f d g other
+mirrored : (ds : List FeatureDraft) → any_from (is_unanswered ds) 0 ds ≡ false → (f : ℕ) (d : FeatureDraft) → slice_get ds f ≡ Some d → (g c : ℕ)
+    → Paired ds d g c
+    → (other : FeatureDraft) × Mirrored ds f d g other
 mirrored ds none f d is g c p =
     by_other (slice_get ds g) refl (not_false _ (subst (λ e. bad_end ds f d e ≡ false) p.ends (none_at (is_unanswered ds) ds none f d is)))
   where
-    by_other : (o : Option Draft) → slice_get ds g ≡ o → answers f d o ≡ true → (other : Draft) × Mirrored ds f d g other
+    by_other : (o : Option FeatureDraft) → slice_get ds g ≡ o → answers f d o ≡ true → (other : FeatureDraft) × Mirrored ds f d g other
     by_other None at h = cc
     by_other (Some other) at h =
         let named = and_two _ _ h in
@@ -157,8 +160,8 @@ mirrored ds none f d is g c p =
             back = record {
               ends = ends;
               goes = to_is d.owner other.target back.0;
-              holds_none = sym (ap (λ o. option_map_or (λ (x : Draft). x.containment) o false) at) ∙ sym (ap (contains_back ds) p.ends) ∙ p.held_by_none;
-              held_by_none = ap (contains_back ds) ends ∙ ap (λ o. option_map_or (λ (x : Draft). x.containment) o false) is ∙ p.holds_none;
+              holds_none = sym (ap (λ o. option_map_or (λ (x : FeatureDraft). x.containment) o false) at) ∙ sym (ap (contains_back ds) p.ends) ∙ p.held_by_none;
+              held_by_none = ap (contains_back ds) ends ∙ ap (λ o. option_map_or (λ (x : FeatureDraft). x.containment) o false) is ∙ p.holds_none;
             };
           },
         )
@@ -170,7 +173,7 @@ got_of h g (x ∷ xs) zero = refl
 got_of h g (x ∷ xs) (suc k) = got_of h g xs k
 
 module _ (rows : MetaRows) (none : fault rows.classifiers ≡ None) where
-  abbrev ds : List Draft
+  abbrev ds : List FeatureDraft
   ds = drafts rows.classifiers
 
   abbrev enums : List Enum
@@ -182,19 +185,20 @@ module _ (rows : MetaRows) (none : fault rows.classifiers ≡ None) where
   pub all_answer : any_from (is_unanswered ds) 0 ds ≡ false
   all_answer = (passes rows.classifiers none).answered
 
-  pub kind_at : (f : ℕ) (d : Draft) → slice_get ds f ≡ Some d → kind_of (meta_of rows) f ≡ kind_in enums ds d d.target
+  pub kind_at : (f : ℕ) (d : FeatureDraft) → slice_get ds f ≡ Some d → kind_of (meta_of rows) f ≡ kind_in enums ds d d.target
   kind_at f d is = got_of (λ (x : Feature). x.kind) (feature_from enums ds) ds f
-      ∙ ap (λ o. option_map_or (λ (x : Draft). kind_in enums ds x x.target) o Skip) is
+      ∙ ap (λ o. option_map_or (λ (x : FeatureDraft). kind_in enums ds x x.target) o Skip) is
 
   -- what an opposite shows
-  opposed : (P : Type 0) (f g : ℕ) → opposite_of (meta_of rows) f ≡ Some g → ((d other : Draft) → slice_get ds f ≡ Some d → Mirrored ds f d g other → P) → P
+  opposed : (P : Type 0) (f g : ℕ) → opposite_of (meta_of rows) f ≡ Some g
+      → ((d other : FeatureDraft) → slice_get ds f ≡ Some d → Mirrored ds f d g other → P) → P
   opposed P f g h more = by_draft (slice_get ds f) refl
     where
-      by_draft : (o : Option Draft) → slice_get ds f ≡ o → P
+      by_draft : (o : Option FeatureDraft) → slice_get ds f ≡ o → P
       by_draft None is =
           let e : None ≡ Some g =
           ap opposite_in (sym (got_of (λ (x : Feature). x.kind) (feature_from enums ds) ds f
-          ∙ ap (λ o. option_map_or (λ (x : Draft). kind_in enums ds x x.target) o Skip) is)) ∙ h in cc
+          ∙ ap (λ o. option_map_or (λ (x : FeatureDraft). kind_in enums ds x x.target) o Skip) is)) ∙ h in cc
       by_draft (Some d) is =
           let p = paired enums ds d g (ap opposite_in (sym (kind_at f d is)) ∙ h) in
           let m = mirrored ds all_answer f d is g p.0 p.1 in
@@ -212,17 +216,17 @@ module _ (rows : MetaRows) (none : fault rows.classifiers ≡ None) where
         (λ d other is m. mirror c f x g d other is m (and_two _ _ linked));
   }
     where
-      kind_here : (f g : ℕ) (d other : Draft) → slice_get ds f ≡ Some d → Mirrored ds f d g other → kind_of (meta_of rows) f ≡ plain d other.owner
+      kind_here : (f g : ℕ) (d other : FeatureDraft) → slice_get ds f ≡ Some d → Mirrored ds f d g other → kind_of (meta_of rows) f ≡ plain d other.owner
       kind_here f g d other is m = kind_at f d is ∙ paired_kind enums ds d g other.owner m.here
 
-      kind_back : (f g : ℕ) (d other : Draft) → Mirrored ds f d g other → kind_of (meta_of rows) g ≡ plain other d.owner
+      kind_back : (f g : ℕ) (d other : FeatureDraft) → Mirrored ds f d g other → kind_of (meta_of rows) g ≡ plain other d.owner
       kind_back f g d other m = kind_at g other m.there ∙ paired_kind enums ds other f d.owner m.back
 
       both_true : (a b : Bool) → a ≡ true → b ≡ true → a && b ≡ true
       both_true true b h k = k
       both_true false b h k = cc
 
-      mirror : (c f x g : ℕ) (d other : Draft) → slice_get ds f ≡ Some d → Mirrored ds f d g other
+      mirror : (c f x g : ℕ) (d other : FeatureDraft) → slice_get ds f ≡ Some d → Mirrored ds f d g other
           → (has_feature (meta_of rows) c f ≡ true) × (plain_to (meta_of rows) (kind_of (meta_of rows) f) x ≡ true) → links (meta_of rows) x g c ≡ true
       mirror c f x g d other is m linked =
           both_true _ _

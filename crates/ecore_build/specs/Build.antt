@@ -8,7 +8,7 @@ use Rattle.ecore_build.specs.Faults.{contains_back, is_skipped, own_of, features
 use Rattle.ecore_meta.specs.Meta.{Meta, is_a}
 use Rattle.ecore_drafts.specs.Supers.{Leads, all_above}
 use Rattle.ecore_meta.specs.Values.{value_of, default_of}
-use Rattle.ecore_drafts.specs.declared.drafts.Draft.{Draft}
+use Rattle.ecore_drafts.specs.declared.drafts.FeatureDraft.{FeatureDraft}
 use Rattle.ecore_drafts.specs.declared.drafts.Target.{Target}
 use Rattle.ecore_drafts.specs.declared.drafts.Target.TheVariants.{Skipped, Unsupported, Missing, Elements, Values}
 use Rattle.ecore_drafts.specs.declared.drafts.End.{End}
@@ -44,7 +44,7 @@ default_in enums s None = default_of s
 default_in enums s (Some text) = value_of enums s text
 
 -- an attribute: single where its upper bound is 1, else many-valued
-abbrev pub attribute : List EnumOf → Draft → Scalar → Kind
+abbrev pub attribute : List EnumOf → FeatureDraft → Scalar → Kind
 attribute enums d s = cond (int_eq d.upper (pos 1)) (Attr s (default_in enums s d.default_text)) (AttrMany s d.unique)
 
 -- a reference to the container, by the containment that is its opposite
@@ -54,15 +54,15 @@ container c Nowhere = Skip
 container c (At g) = Container c g
 
 -- a plain reference: free where it has no upper bound, else bounded
-abbrev pub plain : Draft → ℕ → Kind
+abbrev pub plain : FeatureDraft → ℕ → Kind
 plain d c = cond (int_eq d.upper (negsuc 0)) (Free c (end_number d.end)) (Bounded c (end_number d.end))
 
 -- a reference: elements inside, the container where the opposite has elements inside, or links
-abbrev pub reference : List Draft → Draft → ℕ → Kind
+abbrev pub reference : List FeatureDraft → FeatureDraft → ℕ → Kind
 reference ds d c = cond d.containment (Contains c (end_number d.end)) (cond (contains_back ds d.end) (container c d.end) (plain d c))
 
 -- the kind of a feature, by what its type is
-abbrev pub kind_in : List EnumOf → List Draft → Draft → Target → Kind
+abbrev pub kind_in : List EnumOf → List FeatureDraft → FeatureDraft → Target → Kind
 kind_in enums ds d Skipped = Skip
 kind_in enums ds d Unsupported = Skip
 kind_in enums ds d Missing = Skip
@@ -70,15 +70,15 @@ kind_in enums ds d (Elements c) = reference ds d c
 kind_in enums ds d (Values s) = attribute enums d s
 
 -- a skipped feature has the bounds 0 and 1
-abbrev pub lower_from : Draft → ℕ
+abbrev pub lower_from : FeatureDraft → ℕ
 lower_from d = cond (is_skipped d.target) 0 (natural d.lower)
 
 -- the upper bound, None where there is none
-abbrev pub upper_from : Draft → Option ℕ
+abbrev pub upper_from : FeatureDraft → Option ℕ
 upper_from d = cond (is_skipped d.target) (Some 1) (cond (int_eq d.upper (negsuc 0)) None (Some (natural d.upper)))
 
 -- a feature of the metamodel, by its draft
-abbrev pub feature_from : List EnumOf → List Draft → Draft → Feature
+abbrev pub feature_from : List EnumOf → List FeatureDraft → FeatureDraft → Feature
 feature_from enums ds d = record { owner = d.owner; name = d.name; lower = lower_from d; upper = upper_from d; kind = kind_in enums ds d d.target }
 
 -- a class of a document, which has its place, with its features

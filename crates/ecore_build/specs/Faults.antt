@@ -18,7 +18,7 @@ use Rattle.ecore_drafts.specs.declared.rows.ClassifierRow.{ClassifierRow}
 use Rattle.ecore_drafts.specs.declared.rows.ClassifierRow.TheVariants.{Class, Enum, Plain}
 use Rattle.ecore_drafts.specs.declared.rows.EnumRow.{EnumRow}
 use Rattle.ecore_drafts.specs.declared.rows.LiteralRow.{LiteralRow}
-use Rattle.ecore_drafts.specs.declared.drafts.Draft.{Draft}
+use Rattle.ecore_drafts.specs.declared.drafts.FeatureDraft.{FeatureDraft}
 use Rattle.ecore_drafts.specs.declared.drafts.Target.{Target}
 use Rattle.ecore_drafts.specs.declared.drafts.Target.TheVariants.{Skipped, Unsupported, Missing, Elements, Values}
 use Rattle.ecore_drafts.specs.declared.drafts.End.{End}
@@ -43,7 +43,7 @@ is_unsupported (Elements c) = false
 is_unsupported (Values s) = false
 
 -- an attribute has a type of Ecore that is not read
-abbrev pub unsupported : List Draft → Bool
+abbrev pub unsupported : List FeatureDraft → Bool
 unsupported ds = list_any (λ d. is_unsupported d.target) ds
 
 -- a type that is none of the package that fits
@@ -55,7 +55,7 @@ is_missing (Elements c) = false
 is_missing (Values s) = false
 
 -- a supertype or a feature's type is none of the package that fits
-abbrev pub no_type : ClassifierRows → List Draft → Bool
+abbrev pub no_type : ClassifierRows → List FeatureDraft → Bool
 no_type rows ds = list_any (lacks_super rows) rows || list_any (λ d. is_missing d.target) ds
 
 -- the features that the class of that number declares
@@ -71,11 +71,11 @@ abbrev pub all_inherited : List (List ℕ) → List (List ℕ) → List (List �
 all_inherited supers own = map (inherited supers own) (range_with_len 0 (length supers))
 
 -- the class of that number, or one above it, declares the feature
-abbrev pub is_declared : List (List ℕ) → List Draft → ℕ → ℕ → Bool
+abbrev pub is_declared : List (List ℕ) → List FeatureDraft → ℕ → ℕ → Bool
 is_declared supers ds c f = option_map_or (λ d. is_above supers c d.owner) (slice_get ds f) false
 
 -- the features of a class: all features, by number, that it or a class above it declares
-abbrev pub features_in : List (List ℕ) → List Draft → ℕ → List ℕ
+abbrev pub features_in : List (List ℕ) → List FeatureDraft → ℕ → List ℕ
 features_in supers ds c = filter (is_declared supers ds c) (range_with_len 0 (length ds))
 
 -- the features of every class of a document
@@ -83,15 +83,15 @@ abbrev pub features_of : ClassifierRows → List (List ℕ)
 features_of rows = map (features_in (supers_in rows rows) (drafts rows)) (range_with_len 0 (length (supers_in rows rows)))
 
 -- the name of the feature of that number
-abbrev pub draft_name : List Draft → ℕ → Name
+abbrev pub draft_name : List FeatureDraft → ℕ → Name
 draft_name ds f = option_map_or (λ d. d.name) (slice_get ds f) []
 
 -- a class has two features of one name, inherited ones counted
-abbrev pub clash : List Draft → List (List ℕ) → Bool
+abbrev pub clash : List FeatureDraft → List (List ℕ) → Bool
 clash ds features = list_any (λ fs. has_repeat (map (draft_name ds) fs)) features
 
 -- some feature passes the test, which sees its number
-abbrev pub any_from : (ℕ → Draft → Bool) → ℕ → List Draft → Bool
+abbrev pub any_from : (ℕ → FeatureDraft → Bool) → ℕ → List FeatureDraft → Bool
 any_from p n [] = false
 any_from p n (d ∷ ds) = p n d || any_from p (suc n) ds
 
@@ -102,7 +102,7 @@ is_at n Nowhere = false
 is_at n (At g) = nat_eq n g
 
 -- a reference names itself as its opposite
-abbrev pub is_self : ℕ → Draft → Bool
+abbrev pub is_self : ℕ → FeatureDraft → Bool
 is_self n d = is_at n d.end
 
 -- the type is the class of that number
@@ -114,29 +114,29 @@ is_to c Missing = false
 is_to c (Values s) = false
 
 -- the other names n back, each has the class of the other as its type, and at most one is a containment
-abbrev pub answers : ℕ → Draft → Option Draft → Bool
+abbrev pub answers : ℕ → FeatureDraft → Option FeatureDraft → Bool
 answers n d None = false
 answers n d (Some o) = is_at n o.end && (is_to o.owner d.target && (is_to d.owner o.target && not (d.containment && o.containment)))
 
 -- an opposite that is named is none, or doesn't answer
-abbrev pub bad_end : List Draft → ℕ → Draft → End → Bool
+abbrev pub bad_end : List FeatureDraft → ℕ → FeatureDraft → End → Bool
 bad_end ds n d Open = false
 bad_end ds n d Nowhere = true
 bad_end ds n d (At g) = not (answers n d (slice_get ds g))
 
 -- a reference has an opposite that is none
-abbrev pub is_unanswered : List Draft → ℕ → Draft → Bool
+abbrev pub is_unanswered : List FeatureDraft → ℕ → FeatureDraft → Bool
 is_unanswered ds n d = bad_end ds n d d.end
 
 -- the opposite is a containment
-abbrev pub contains_back : List Draft → End → Bool
+abbrev pub contains_back : List FeatureDraft → End → Bool
 contains_back ds Open = false
 contains_back ds Nowhere = false
 contains_back ds (At g) = option_map_or (λ o. o.containment) (slice_get ds g) false
 
 -- The bounds are none: the upper is neither -1 nor at least 1, or the lower is below 0 or above it. So are those of a container
 -- whose upper isn't 1.
-abbrev pub bad_bounds : List Draft → Draft → Bool
+abbrev pub bad_bounds : List FeatureDraft → FeatureDraft → Bool
 bad_bounds ds d =
     int_lt d.lower (pos 0)
     || not (int_eq d.upper (negsuc 0)) && (int_lt d.upper (pos 1) || int_lt d.upper d.lower)
@@ -151,7 +151,7 @@ is_skipped (Elements c) = false
 is_skipped (Values s) = false
 
 -- a feature that isn't skipped has such bounds
-abbrev pub bad_bound : List Draft → Draft → Bool
+abbrev pub bad_bound : List FeatureDraft → FeatureDraft → Bool
 bad_bound ds d = not (is_skipped d.target) && bad_bounds ds d
 
 -- the text stands for no value of the type
@@ -164,7 +164,7 @@ no_value enums Missing text = false
 no_value enums (Elements c) text = false
 
 -- the default text of a single attribute gives no value
-abbrev pub bad_default : List EnumOf → Draft → Bool
+abbrev pub bad_default : List EnumOf → FeatureDraft → Bool
 bad_default enums d = int_eq d.upper (pos 1) && no_value enums d.target d.default_text
 
 -- a literal by its name and its text
@@ -185,7 +185,7 @@ first_true [] = None
 first_true (t ∷ ts) = cond t.0 (Some t.1) (first_true ts)
 
 -- the last four tests, which look at the resolved features alone, each with its fault
-abbrev pub last_tests : List Draft → List EnumOf → List (Bool × MetaFault)
+abbrev pub last_tests : List FeatureDraft → List EnumOf → List (Bool × MetaFault)
 last_tests ds enums =
     (any_from is_self 0 ds, SelfOpposite)
     ∷ (any_from (is_unanswered ds) 0 ds, BadOpposite)

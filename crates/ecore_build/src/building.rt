@@ -16,7 +16,7 @@ use crate::faults::{
 };
 use crate::features::{all_features, any_bad_default, any_clash, classes_of, features_of};
 use ecore_drafts::{
-    ClassifierRow, Classifiers, Draft, MetaRows, all_above, any_cycle, own_features,
+    ClassifierRow, Classifiers, FeatureDraft, MetaRows, all_above, any_cycle, own_features,
 };
 use ecore_meta::{Enums, Metamodel, Parts};
 use std::alloc::{AllocError, Global};
@@ -25,7 +25,7 @@ use std::collections::BTreeSet;
 /// What is known of a document once no two of its names are the same.
 #[derive(Drop)]
 pub(crate) struct Resolved {
-    pub drafts: Vec<Draft>,
+    pub drafts: Vec<FeatureDraft>,
     pub supers: Vec<Vec<u32>>,
     pub above: Vec<BTreeSet<u32>>,
     pub features: Vec<Vec<u32>>,

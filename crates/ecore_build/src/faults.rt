@@ -6,7 +6,7 @@ ghost use Rattle.ecore_meta.specs.Names.{has_repeat};
 ghost use Rattle.ecore_build.specs.Faults.{any_from, answers, bad_bound, bad_bounds, contains_back, is_at, is_missing, is_self, is_skipped, is_to, is_unanswered, is_unsupported, repeats_within, unsupported};
 
 use ecore_drafts::{
-    ClassifierRow, Draft, End, LiteralRow, Target, feature_names, index, literal_names,
+    ClassifierRow, End, FeatureDraft, LiteralRow, Target, feature_names, index, literal_names,
     literal_texts,
 };
 use std::alloc::{AllocError, Global};
@@ -100,14 +100,14 @@ pub(crate) fn is_skipped(target: &Target) -> bool
 }
 
 /// Whether some attribute has a type of Ecore that is not read.
-pub(crate) fn any_unsupported(drafts: &[Draft]) -> bool
+pub(crate) fn any_unsupported(drafts: &[FeatureDraft]) -> bool
     ensures { result ≡ unsupported drafts.now }
 {
     drafts.iter().any(|d| is_unsupported(&d.target))
 }
 
 /// Whether some feature has a type that is none of the package that fits.
-pub(crate) fn any_missing(drafts: &[Draft]) -> bool
+pub(crate) fn any_missing(drafts: &[FeatureDraft]) -> bool
     ensures { result ≡ list_any (λ d. is_missing d.target) drafts.now }
 {
     drafts.iter().any(|d| is_missing(&d.target))
@@ -136,7 +136,7 @@ fn is_to(class: u32, target: &Target) -> bool
 
 /// Whether the other names the feature of that number back, each has the other's class as its type, and at most one is a
 /// containment.
-fn answers(n: u32, draft: &Draft, other: &Draft) -> bool
+fn answers(n: u32, draft: &FeatureDraft, other: &FeatureDraft) -> bool
     ensures { result ≡ answers n draft.now (Some other.now) }
 {
     is_at(n, other.end)
@@ -146,7 +146,7 @@ fn answers(n: u32, draft: &Draft, other: &Draft) -> bool
 }
 
 /// Whether a named opposite is none, or does not answer.
-fn is_unanswered(drafts: &[Draft], n: u32, draft: &Draft) -> bool
+fn is_unanswered(drafts: &[FeatureDraft], n: u32, draft: &FeatureDraft) -> bool
     ensures { result ≡ is_unanswered drafts.now n draft.now }
 {
     match draft.end {
@@ -160,14 +160,14 @@ fn is_unanswered(drafts: &[Draft], n: u32, draft: &Draft) -> bool
 }
 
 /// The feature of that number.
-pub(crate) fn at(drafts: &[Draft], n: u32) -> Option<&Draft>
+pub(crate) fn at(drafts: &[FeatureDraft], n: u32) -> Option<&FeatureDraft>
     ensures { option_copied result ≡ slice_get drafts.now n }
 {
     drafts.get(n as usize)
 }
 
 /// Whether some reference names itself as its opposite.
-pub(crate) fn any_self(drafts: &[Draft]) -> bool
+pub(crate) fn any_self(drafts: &[FeatureDraft]) -> bool
     requires { length drafts.now < 2 ^ 32 }
     ensures { result ≡ any_from is_self 0 drafts.now }
 {
@@ -180,7 +180,7 @@ pub(crate) fn any_self(drafts: &[Draft]) -> bool
 }
 
 /// Whether some reference has an opposite that is none, or does not answer.
-pub(crate) fn any_unanswered(drafts: &[Draft]) -> bool
+pub(crate) fn any_unanswered(drafts: &[FeatureDraft]) -> bool
     requires { length drafts.now < 2 ^ 32 }
     ensures { result ≡ any_from (is_unanswered drafts.now) 0 drafts.now }
 {
@@ -193,7 +193,7 @@ pub(crate) fn any_unanswered(drafts: &[Draft]) -> bool
 }
 
 /// Whether the opposite is a containment.
-pub(crate) fn contains_back(drafts: &[Draft], end: End) -> bool
+pub(crate) fn contains_back(drafts: &[FeatureDraft], end: End) -> bool
     ensures { result ≡ contains_back drafts.now end }
 {
     match end {
@@ -207,7 +207,7 @@ pub(crate) fn contains_back(drafts: &[Draft], end: End) -> bool
 }
 
 /// Whether the lower bound is below 0 or above the upper, or the upper is none. A container has an upper bound of 1.
-fn bad_bounds(drafts: &[Draft], draft: &Draft) -> bool
+fn bad_bounds(drafts: &[FeatureDraft], draft: &FeatureDraft) -> bool
     ensures { result ≡ bad_bounds drafts.now draft.now }
 {
     draft.lower < 0
@@ -216,7 +216,7 @@ fn bad_bounds(drafts: &[Draft], draft: &Draft) -> bool
 }
 
 /// Whether some feature that is not skipped has such bounds.
-pub(crate) fn any_bad_bound(drafts: &[Draft]) -> bool
+pub(crate) fn any_bad_bound(drafts: &[FeatureDraft]) -> bool
     ensures { result ≡ list_any (bad_bound drafts.now) drafts.now }
 {
     for draft in drafts {

@@ -7,7 +7,7 @@ ghost use Rattle.ecore_drafts.specs.Supers.{all_above};
 ghost use Rattle.ecore_build.specs.Faults.{all_inherited, bad_default, clash, draft_name, no_value, own_of};
 
 use crate::faults::{at, contains_back, is_skipped, repeats};
-use ecore_drafts::{ClassifierRow, Draft, End, Target};
+use ecore_drafts::{ClassifierRow, End, FeatureDraft, Target};
 use ecore_meta::{Class, Enums, Feature, Kind, Scalar, default_of, value_of};
 use std::alloc::{AllocError, Global};
 use std::collections::BTreeSet;
@@ -60,7 +60,7 @@ pub(crate) fn all_features(
 }
 
 /// The name of the feature of that number, empty for a number that is none.
-fn name_of(drafts: &[Draft], n: u32) -> &str
+fn name_of(drafts: &[FeatureDraft], n: u32) -> &str
     ensures { result.now ≡ draft_name drafts.now n }
 {
     match at(drafts, n) {
@@ -72,7 +72,7 @@ fn name_of(drafts: &[Draft], n: u32) -> &str
 /// The names of the features of those numbers.
 fn names_of<'a>(
     alloc: Global,
-    drafts: &'a [Draft],
+    drafts: &'a [FeatureDraft],
     features: &[u32],
 ) -> Result<Vec<&'a str>, AllocError>
     ensures { IfOk result (λ v. map (λ n. n.now) v.items ≡ map (draft_name drafts.now) features.now) }
@@ -87,7 +87,7 @@ fn names_of<'a>(
 /// Whether a class has two features of one name.
 pub(crate) fn any_clash(
     alloc: Global,
-    drafts: &[Draft],
+    drafts: &[FeatureDraft],
     features: &[Vec<u32>],
 ) -> Result<bool, AllocError>
     ensures { IfOk result (λ b. b ≡ clash drafts.now (map (λ fs. fs.items) features.now)) }
@@ -123,7 +123,7 @@ fn no_value(
 pub(crate) fn any_bad_default(
     alloc: Global,
     enums: &Enums,
-    drafts: &[Draft],
+    drafts: &[FeatureDraft],
 ) -> Result<bool, AllocError>
     ensures { IfOk result (λ b. b ≡ list_any (bad_default enums.now) drafts.now) }
 {
@@ -166,7 +166,7 @@ fn end_number(end: End) -> Option<u32>
 fn attribute(
     alloc: Global,
     enums: &Enums,
-    draft: &Draft,
+    draft: &FeatureDraft,
     scalar: &Scalar,
 ) -> Result<Kind, AllocError>
     ensures { IfOk result (λ k. k ≡ attribute enums.now draft.now scalar.now) }
@@ -218,7 +218,7 @@ fn container(class: u32, end: End) -> Kind
 }
 
 /// A reference's kind: elements inside, the container, or links with or without a bound.
-fn reference(drafts: &[Draft], draft: &Draft, target: u32) -> Kind
+fn reference(drafts: &[FeatureDraft], draft: &FeatureDraft, target: u32) -> Kind
     ensures { result ≡ reference drafts.now draft.now target }
 {
     let opposite = end_number(draft.end);
@@ -234,7 +234,12 @@ fn reference(drafts: &[Draft], draft: &Draft, target: u32) -> Kind
 }
 
 /// The kind of a feature, by what its type is.
-fn kind(alloc: Global, enums: &Enums, drafts: &[Draft], draft: &Draft) -> Result<Kind, AllocError>
+fn kind(
+    alloc: Global,
+    enums: &Enums,
+    drafts: &[FeatureDraft],
+    draft: &FeatureDraft,
+) -> Result<Kind, AllocError>
     ensures { IfOk result (λ k. k ≡ kind_in enums.now drafts.now draft.now draft.now.target) }
 {
     match &draft.target {
@@ -245,7 +250,7 @@ fn kind(alloc: Global, enums: &Enums, drafts: &[Draft], draft: &Draft) -> Result
 }
 
 /// The lower bound; that of a skipped feature is 0.
-fn lower(draft: &Draft) -> u32
+fn lower(draft: &FeatureDraft) -> u32
     ensures { result ≡ lower_from draft.now }
 {
     if is_skipped(&draft.target) {
@@ -256,7 +261,7 @@ fn lower(draft: &Draft) -> u32
 }
 
 /// The upper bound, `None` where there is none; that of a skipped feature is 1.
-fn upper(draft: &Draft) -> Option<u32>
+fn upper(draft: &FeatureDraft) -> Option<u32>
     ensures { result ≡ upper_from draft.now }
 {
     if is_skipped(&draft.target) {
@@ -272,8 +277,8 @@ fn upper(draft: &Draft) -> Option<u32>
 fn feature(
     alloc: Global,
     enums: &Enums,
-    drafts: &[Draft],
-    draft: &Draft,
+    drafts: &[FeatureDraft],
+    draft: &FeatureDraft,
 ) -> Result<Feature, AllocError>
     ensures { IfOk result (λ f. f ≡ feature_from enums.now drafts.now draft.now) }
 {
@@ -290,7 +295,7 @@ fn feature(
 pub(crate) fn features_of(
     alloc: Global,
     enums: &Enums,
-    drafts: &[Draft],
+    drafts: &[FeatureDraft],
 ) -> Result<Vec<Feature>, AllocError>
     ensures { IfOk result (λ v. v.items ≡ map (feature_from enums.now drafts.now) drafts.now) }
 {

@@ -15,7 +15,7 @@ use Rattle.ecore_drafts.specs.Document.{feature_names, feature_number, feature_p
 use Rattle.ecore_drafts.specs.Drafts.{draft, drafts, drafts_of, own_scalar}
 use Rattle.ecore_drafts.specs.declared.classifiers.Classifier.{Classifier}
 use Rattle.ecore_drafts.specs.declared.classifiers.Classifier.TheVariants.{Class as OfClass, Enum as OfEnum, Plain as OfPlain}
-use Rattle.ecore_drafts.specs.declared.drafts.Draft.{Draft}
+use Rattle.ecore_drafts.specs.declared.drafts.FeatureDraft.{FeatureDraft}
 use Rattle.ecore_drafts.specs.declared.drafts.Target.{Target}
 use Rattle.ecore_drafts.specs.declared.drafts.Target.TheVariants.{Missing, Values}
 use Rattle.ecore_drafts.specs.declared.rows.ClassifierRow.{ClassifierRow}
@@ -341,7 +341,7 @@ feature_is rows class feature h =
     feature_counted class feature 0 0 0 rows h ∙ sym (position_from-zero (is_pair class feature) (flat_map feature_pairs (classes_of rows)))
 
 -- ---- the features of a document, counted from the first class on
-abbrev pub drafts_from : ClassifierRows → ℕ → ClassifierRows → List Draft
+abbrev pub drafts_from : ClassifierRows → ℕ → ClassifierRows → List FeatureDraft
 drafts_from all n [] = []
 drafts_from all n (Class c ∷ rows) = map (draft all n) c.features ++ drafts_from all (suc n) rows
 drafts_from all n (Enum e ∷ rows) = drafts_from all n rows

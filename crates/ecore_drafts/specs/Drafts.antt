@@ -11,7 +11,7 @@ use Rattle.ecore_drafts.specs.declared.rows.FeatureRow.{FeatureRow}
 use Rattle.ecore_drafts.specs.declared.rows.OppositeRow.{OppositeRow}
 use Rattle.ecore_drafts.specs.declared.rows.TypeName.{TypeName}
 use Rattle.ecore_drafts.specs.declared.rows.TypeName.TheVariants.{Own, Ecore}
-use Rattle.ecore_drafts.specs.declared.drafts.Draft.{Draft}
+use Rattle.ecore_drafts.specs.declared.drafts.FeatureDraft.{FeatureDraft}
 use Rattle.ecore_drafts.specs.declared.drafts.Target.{Target}
 use Rattle.ecore_drafts.specs.declared.drafts.Target.TheVariants.{Skipped, Unsupported, Missing, Elements, Values}
 use Rattle.ecore_drafts.specs.declared.drafts.End.{End}
@@ -66,7 +66,7 @@ abbrev pub end_of : ClassifierRows → FeatureRow → End
 end_of all f = cond f.skipped Open (cond f.is_reference (named_end all f.opposite) Open)
 
 -- a feature that the class of that number declares
-abbrev pub draft : ClassifierRows → ℕ → FeatureRow → Draft
+abbrev pub draft : ClassifierRows → ℕ → FeatureRow → FeatureDraft
 draft all owner f = record {
   owner = owner;
   name = f.name;
@@ -80,9 +80,9 @@ draft all owner f = record {
 }
 
 -- the features of a class, which has its place
-abbrev pub drafts_of : ClassifierRows → ℕ × ClassRow → List Draft
+abbrev pub drafts_of : ClassifierRows → ℕ × ClassRow → List FeatureDraft
 drafts_of all class = map (draft all class.0) class.1.features
 
 -- the features of a document, in the order of their declaration
-unfoldable pub drafts : ClassifierRows → List Draft
+unfoldable pub drafts : ClassifierRows → List FeatureDraft
 drafts all = flat_map (drafts_of all) (enumerate_from 0 (classes_of all))

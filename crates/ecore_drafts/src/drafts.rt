@@ -37,7 +37,7 @@ pub enum End {
 
 /// A feature with the names in it resolved, in the form in which the faults are looked for.
 #[derive(Drop)]
-pub struct Draft {
+pub struct FeatureDraft {
     pub owner: u32,
     pub name: Text,
     pub target: Target,
@@ -149,10 +149,10 @@ impl<'a> Classifiers<'a> {
     }
 
     /// A feature that the class of that number declares.
-    fn draft(&self, alloc: Global, owner: u32, row: &FeatureRow) -> Result<Draft, AllocError>
+    fn draft(&self, alloc: Global, owner: u32, row: &FeatureRow) -> Result<FeatureDraft, AllocError>
         ensures { IfOk result (λ d. d ≡ draft self.now owner row.now) }
     {
-        Ok(Draft {
+        Ok(FeatureDraft {
             owner,
             name: row.name.copy(alloc)?,
             target: self.target_of(row),
@@ -171,7 +171,7 @@ impl<'a> Classifiers<'a> {
         alloc: Global,
         owner: u32,
         rows: &[FeatureRow],
-        drafts: &mut Vec<Draft>,
+        drafts: &mut Vec<FeatureDraft>,
     ) -> Result<(), AllocError>
         ensures { OnOk result (drafts.new.items ≡ drafts.old.items ++ map (draft self.now owner) rows.now) }
     {
@@ -182,7 +182,11 @@ impl<'a> Classifiers<'a> {
     }
 
     /// The features of the document in the order of their declaration.
-    pub fn drafts(&self, alloc: Global, rows: &[ClassifierRow]) -> Result<Vec<Draft>, AllocError>
+    pub fn drafts(
+        &self,
+        alloc: Global,
+        rows: &[ClassifierRow],
+    ) -> Result<Vec<FeatureDraft>, AllocError>
         requires same { self.now ≡ rows.now }
         requires few { length rows.now < too_many }
         ensures { IfOk result (λ v. v.items ≡ drafts rows.now) }

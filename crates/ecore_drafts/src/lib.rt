@@ -10,7 +10,7 @@ mod supers;
 mod tables;
 
 pub use classifiers::Classifiers;
-pub use drafts::{Draft, End, Target};
+pub use drafts::{End, FeatureDraft, Target};
 pub use names::{feature_names, index, literal_names, literal_texts};
 pub use rows::{
     ClassRow, ClassifierRow, EnumRow, FeatureRow, LiteralRow, MetaRows, OppositeRow, TypeName,

@@ -86,19 +86,19 @@ of_meta meta.BadDefault = OfMeta meta.BadDefault
 of_meta meta.Memory = Memory
 
 -- the number of a fault in a reply
-abbrev pub fault_number : EcoreFault → ℕ
-fault_number NotJson = 1
-fault_number NotPackage = 2
-fault_number BadKey = 3
-fault_number LeftOut = 4
-fault_number Memory = 6
-fault_number (OfMeta meta.DupName) = 11
-fault_number (OfMeta meta.Unsupported) = 12
-fault_number (OfMeta meta.NoType) = 13
-fault_number (OfMeta meta.SuperCycle) = 14
-fault_number (OfMeta meta.Clash) = 15
-fault_number (OfMeta meta.SelfOpposite) = 16
-fault_number (OfMeta meta.BadOpposite) = 17
-fault_number (OfMeta meta.BadBound) = 18
-fault_number (OfMeta meta.BadDefault) = 19
-fault_number (OfMeta meta.Memory) = 6
+abbrev pub ecore_fault_number : EcoreFault → ℕ
+ecore_fault_number NotJson = 1
+ecore_fault_number NotPackage = 2
+ecore_fault_number BadKey = 3
+ecore_fault_number LeftOut = 4
+ecore_fault_number Memory = 6
+ecore_fault_number (OfMeta meta.DupName) = 11
+ecore_fault_number (OfMeta meta.Unsupported) = 12
+ecore_fault_number (OfMeta meta.NoType) = 13
+ecore_fault_number (OfMeta meta.SuperCycle) = 14
+ecore_fault_number (OfMeta meta.Clash) = 15
+ecore_fault_number (OfMeta meta.SelfOpposite) = 16
+ecore_fault_number (OfMeta meta.BadOpposite) = 17
+ecore_fault_number (OfMeta meta.BadBound) = 18
+ecore_fault_number (OfMeta meta.BadDefault) = 19
+ecore_fault_number (OfMeta meta.Memory) = 6

@@ -1,6 +1,6 @@
 //! The faults of an Ecore document in the order in which they are looked for, with the number of each in a reply.
 ghost use Rattle.std.specs.Prelude.{◌≡◌};
-ghost use Rattle.ecore_json.specs.Metamodel.{fault_number, of_meta};
+ghost use Rattle.ecore_json.specs.Metamodel.{ecore_fault_number, of_meta};
 ghost use Rattle.ecore_json.specs.declared.fault.EcoreFault.TheVariants.{Memory};
 
 use ecore_build::MetaFault;
@@ -51,7 +51,7 @@ impl From<AllocError> for EcoreFault {
 impl EcoreFault {
     /// The number of the fault in a reply.
     pub fn number(&self) -> u32
-        ensures number { result ≡ fault_number self.now }
+        ensures number { result ≡ ecore_fault_number self.now }
     {
         match self {
             EcoreFault::NotJson => 1,

@@ -11,7 +11,7 @@ use Rattle.std.specs.Str.Parse.{ParsesSigned}
 use Rattle.std.specs.Result.{OkIff}
 use Rattle.std.proofs.lemmas.Str.Parse.{IsNumeralModel, numerals_by_fold, parse_signed_plain, parse_signed_minus}
 use Rattle.ecore_meta.specs.Typing.{half_of, in_width}
-use Rattle.ecore_meta.specs.Values.{digits_from, is_numeral, narrow, whole_of, wide}
+use Rattle.ecore_meta.specs.Values.{digits_from, is_digits, narrow, whole_of, wide}
 use Rattle.std.specs.Option.{option_and_then, option_map_or}
 use Rattle.ecore_meta.specs.Values.{AreShort, literals_at}
 use Rattle.ecore_meta.specs.declared.meta.Enum.{Enum}
@@ -34,11 +34,11 @@ chosen (Err e) v true h f g = absurd (h (g refl))
 chosen (Err e) v false h f g = refl
 
 -- digits, one or more
-numeral : (bs : List ℕ) → is_numeral bs ≡ true → (all_ascii_digits bs ≡ true) × (0 < length bs)
+numeral : (bs : List ℕ) → is_digits bs ≡ true → (all_ascii_digits bs ≡ true) × (0 < length bs)
 numeral [] h = cc
 numeral (b ∷ bs) h = (h, omega arith)
 
-is_numeral_of : (bs : List ℕ) → all_ascii_digits bs ≡ true → 0 < length bs → is_numeral bs ≡ true
+is_numeral_of : (bs : List ℕ) → all_ascii_digits bs ≡ true → 0 < length bs → is_digits bs ≡ true
 is_numeral_of [] h k = absurd (omega arith)
 is_numeral_of (b ∷ bs) h k = h
 
@@ -53,15 +53,15 @@ is_below : (n : ℕ) → n < 9223372036854775808 → nat_lt n 922337203685477580
 is_below n h = grind (arith, nat_tests)
 
 pub parsed_plain : {E : Type 0} (bs : List ℕ) (r : Result ℤ E) → ParsesSigned w64 10 bs r → get_or bs 0 0 ≢ 43 → get_or bs 0 0 ≢ 45
-    → ok_of r ≡ wide (cond (is_numeral bs) (Some (pos (digits_from 0 bs))) None)
+    → ok_of r ≡ wide (cond (is_digits bs) (Some (pos (digits_from 0 bs))) None)
 parsed_plain bs r h plus minus =
-    chosen r (pos (digits_from 0 bs)) (cond (is_numeral bs) (nat_lt (digits_from 0 bs) 9223372036854775808) false)
+    chosen r (pos (digits_from 0 bs)) (cond (is_digits bs) (nat_lt (digits_from 0 bs) 9223372036854775808) false)
     (parse_signed_plain own w64 bs r h plus minus)
     (λ q. rw (is_numeral_of bs q.0 q.1) (is_below _ q.2))
-    (λ e. back (is_numeral bs) refl e)
-    ∙ sym (wide_pos (is_numeral bs) (digits_from 0 bs))
+    (λ e. back (is_digits bs) refl e)
+    ∙ sym (wide_pos (is_digits bs) (digits_from 0 bs))
   where
-    back : (b : Bool) → is_numeral bs ≡ b → cond b (nat_lt (digits_from 0 bs) 9223372036854775808) false ≡ true
+    back : (b : Bool) → is_digits bs ≡ b → cond b (nat_lt (digits_from 0 bs) 9223372036854775808) false ≡ true
         → (all_ascii_digits bs ≡ true) × (0 < length bs) × (digits_from 0 bs < 2 ^ 63)
     back true is e = let k = numeral bs is in (k.0, k.1, below _ e)
     back false is e = cc
@@ -84,15 +84,15 @@ is_most : (n : ℕ) → n ≤ 9223372036854775808 → nat_lt n 92233720368547758
 is_most n h = grind (arith, nat_tests)
 
 parsed_minus : {E : Type 0} (bs : List ℕ) (r : Result ℤ E) → ParsesSigned w64 10 bs r → get_or bs 0 0 ≡ 45
-    → ok_of r ≡ wide (cond (is_numeral (drop 1 bs)) (Some (neg_ℤ (pos (digits_from 0 (drop 1 bs))))) None)
+    → ok_of r ≡ wide (cond (is_digits (drop 1 bs)) (Some (neg_ℤ (pos (digits_from 0 (drop 1 bs))))) None)
 parsed_minus bs r h minus =
-    chosen r (neg_ℤ (pos (digits_from 0 (drop 1 bs)))) (cond (is_numeral (drop 1 bs)) (nat_lt (digits_from 0 (drop 1 bs)) 9223372036854775809) false)
+    chosen r (neg_ℤ (pos (digits_from 0 (drop 1 bs)))) (cond (is_digits (drop 1 bs)) (nat_lt (digits_from 0 (drop 1 bs)) 9223372036854775809) false)
     (parse_signed_minus own w64 bs r h minus)
     (λ q. rw (is_numeral_of (drop 1 bs) q.0 q.1) (is_most _ q.2))
-    (λ e. back (is_numeral (drop 1 bs)) refl e)
-    ∙ sym (wide_neg (is_numeral (drop 1 bs)) (digits_from 0 (drop 1 bs)))
+    (λ e. back (is_digits (drop 1 bs)) refl e)
+    ∙ sym (wide_neg (is_digits (drop 1 bs)) (digits_from 0 (drop 1 bs)))
   where
-    back : (b : Bool) → is_numeral (drop 1 bs) ≡ b → cond b (nat_lt (digits_from 0 (drop 1 bs)) 9223372036854775809) false ≡ true
+    back : (b : Bool) → is_digits (drop 1 bs) ≡ b → cond b (nat_lt (digits_from 0 (drop 1 bs)) 9223372036854775809) false ≡ true
         → (all_ascii_digits (drop 1 bs) ≡ true) × (0 < length (drop 1 bs)) × (digits_from 0 (drop 1 bs) ≤ 2 ^ 63)
     back true is e = let k = numeral (drop 1 bs) is in (k.0, k.1, most _ e)
     back false is e = cc
@@ -110,7 +110,7 @@ parsed [] r h plus = parsed_plain [] r h (λ e. cc) (λ e. cc)
 parsed (b ∷ bs) r h plus = by_sign (nat_eq b 45) refl
   where
     by_sign : (t : Bool) → nat_eq b 45 ≡ t
-        → ok_of r ≡ wide (if t then cond (is_numeral bs) (Some (neg_ℤ (pos (digits_from 0 bs)))) None else cond (is_numeral (b ∷ bs))
+        → ok_of r ≡ wide (if t then cond (is_digits bs) (Some (neg_ℤ (pos (digits_from 0 bs)))) None else cond (is_digits (b ∷ bs))
         (Some (pos (digits_from 0 (b ∷ bs)))) None)
     by_sign true e = parsed_minus (b ∷ bs) r h (nat_same b 45 e)
     by_sign false e = parsed_plain (b ∷ bs) r h (nat_apart b 43 (sym plus)) (nat_apart b 45 e)
@@ -122,10 +122,10 @@ plus_none [] h = cc
 plus_none (b ∷ bs) h = by_byte b (nat_same b 43 (sym h))
   where
     by_byte : (b : ℕ) → b ≡ 43
-        → None ≡ wide (if nat_eq b 45 then cond (is_numeral bs) (Some (neg_ℤ (pos (digits_from 0 bs)))) None else cond (is_numeral (b ∷ bs))
+        → None ≡ wide (if nat_eq b 45 then cond (is_digits bs) (Some (neg_ℤ (pos (digits_from 0 bs)))) None else cond (is_digits (b ∷ bs))
         (Some (pos (digits_from 0 (b ∷ bs)))) None)
     by_byte b e = subst (λ x.
-        None ≡ wide (if nat_eq x 45 then cond (is_numeral bs) (Some (neg_ℤ (pos (digits_from 0 bs)))) None else cond (is_numeral (x ∷ bs))
+        None ≡ wide (if nat_eq x 45 then cond (is_digits bs) (Some (neg_ℤ (pos (digits_from 0 bs)))) None else cond (is_digits (x ∷ bs))
         (Some (pos (digits_from 0 (x ∷ bs)))) None)) (sym e) refl
 
 -- the number that was read fits 64 bits

@@ -21,9 +21,9 @@ digits_from n [] = n
 digits_from n (b ∷ bs) = digits_from (10 * n + (b - 48)) bs
 
 -- one digit or more
-abbrev pub is_numeral : List ℕ → Bool
-is_numeral [] = false
-is_numeral (b ∷ bs) = all_ascii_digits (b ∷ bs)
+abbrev pub is_digits : List ℕ → Bool
+is_digits [] = false
+is_digits (b ∷ bs) = all_ascii_digits (b ∷ bs)
 
 -- the text begins with a minus
 abbrev pub is_negative : List ℕ → Bool
@@ -33,8 +33,8 @@ is_negative (b ∷ bs) = nat_eq b 45
 -- a whole number: digits, or a minus and digits
 unfoldable pub whole_of : List ℕ → Option ℤ
 whole_of text =
-    if is_negative text then cond (is_numeral (drop 1 text)) (Some (neg_ℤ (pos (digits_from 0 (drop 1 text))))) None
-    else cond (is_numeral text) (Some (pos (digits_from 0 text))) None
+    if is_negative text then cond (is_digits (drop 1 text)) (Some (neg_ℤ (pos (digits_from 0 (drop 1 text))))) None
+    else cond (is_digits text) (Some (pos (digits_from 0 text))) None
 
 -- the number, where 64 bits hold it
 abbrev pub wide : Option ℤ → Option ℤ

@@ -12,7 +12,7 @@ use Rattle.edit_steps.specs.Spot.{end_spot, rank_for, ranks_of, spot_by}
 use Rattle.edit_steps.specs.declared.fault.EditFault.TheVariants as faults
 use Rattle.edit_steps.specs.declared.link_fault.LinkFault.{LinkFault}
 use Rattle.edit_steps.specs.declared.link_fault.LinkFault.TheVariants.{AlreadyThere, Bound, Memory, NoEntry, WrongType}
-use Rattle.edit_steps.specs.LinkRefusals.{IsFull, IsRefusal, edit_fault, enter_refusal}
+use Rattle.edit_steps.specs.LinkRefusals.{IsFull, IsLinkRefusal, edit_fault_of_link, enter_refusal}
 use Rattle.edit_steps.specs.Rows.{Rows, reranks}
 use Rattle.edit_steps.specs.References.{holds_one, others_there}
 use Rattle.edit_steps.proofs.SpotLaws.{no_reranks, nothing_added}
@@ -50,20 +50,20 @@ on_err (Err e) h p = h e p
 at_end : (n : ℕ) → nat_le n n ≡ true
 at_end n = grind (arith, nat_tests)
 
-only_bound : (e : LinkFault) → Some faults.Bound ≡ Some (edit_fault e) → e ≡ Bound
+only_bound : (e : LinkFault) → Some faults.Bound ≡ Some (edit_fault_of_link e) → e ≡ Bound
 only_bound Bound is = refl
 only_bound AlreadyThere is = cc
 only_bound NoEntry is = cc
 only_bound WrongType is = cc
 only_bound Memory is = cc
 
-refused_end : (ranked : Bool) (e : LinkFault) → first_refusal ((true, faults.NoEntry) ∷ (ranked, faults.Bound) ∷ []) ≡ Some (edit_fault e)
+refused_end : (ranked : Bool) (e : LinkFault) → first_refusal ((true, faults.NoEntry) ∷ (ranked, faults.Bound) ∷ []) ≡ Some (edit_fault_of_link e)
     → (e ≡ Bound) × (ranked ≡ false)
 refused_end true e is = cc
 refused_end false e is = (only_bound e is, refl)
 
 -- at the end of a list there is nothing but a rank to be lacked
-pub full_of : (xs : List Entry) (e : LinkFault) → IsRefusal (enter_refusal xs None) e → IsFull (is_some (end_spot xs).rank) e
+pub full_of : (xs : List Entry) (e : LinkFault) → IsLinkRefusal (enter_refusal xs None) e → IsFull (is_some (end_spot xs).rank) e
 full_of xs e refused = elim refused [
   | inl memory ↦ inl memory
   | inr is ↦

@@ -23,7 +23,7 @@ use Rattle.edit_steps.proofs.MoveEdits.{move_within_meets, move_to_meets, not_th
 use Rattle.edit_steps.proofs.PlaceStanding.{create_stands, move_within_stands, move_to_stands}
 use Rattle.edit_steps.proofs.Told.{without_none}
 use Rattle.edit_steps.specs.declared.move_fault.MoveFault.{MoveFault}
-use Rattle.edit_steps.specs.MoveRefusals.{IsPlace, create_refusal, first_refusal, create_tests, move_tests, within_tests, arrival_tests, place_of}
+use Rattle.edit_steps.specs.MoveRefusals.{IsPlace, create_refusal, first_place_refusal, create_tests, move_tests, within_tests, arrival_tests, place_of}
 use Rattle.edit_steps.specs.Moves.{move_after, move_made}
 use Rattle.edit_steps.specs.PlaceLaws.{CreateLeads, CreatedStands, MoveLeads, MovedStands}
 use Rattle.edit_steps.proofs.Containers.{live_place, one_chain, parent_live, chain_passes}
@@ -32,10 +32,10 @@ abbrev pub AllPass : List (Bool × MoveFault) → Type 0
 AllPass [] = Unit {0}
 AllPass (t ∷ ts) = (t.0 ≡ true) × AllPass ts
 
-pub passed : (ts : List (Bool × MoveFault)) → first_refusal ts ≡ None → AllPass ts
+pub passed : (ts : List (Bool × MoveFault)) → first_place_refusal ts ≡ None → AllPass ts
 passed [] h = tt
 passed (t ∷ ts) h =
-    elim (t.0) as (λ b. t.0 ≡ b → cond b (first_refusal ts) (Some t.1) ≡ None → (t.0 ≡ true) × AllPass ts) [
+    elim (t.0) as (λ b. t.0 ≡ b → cond b (first_place_refusal ts) (Some t.1) ≡ None → (t.0 ≡ true) × AllPass ts) [
       | true ↦ λ e g. (e, passed ts g)
       | false ↦ λ e g. cc
     ] refl h
@@ -87,7 +87,7 @@ module _ (meta : Meta) (sound : Sound meta) (m : State) (good : Good meta m) (e 
   }
 
   -- it may move to the other place
-  pub may_arrive : first_refusal (move_tests meta m e to down at) ≡ None → place_eq (place_of m e) to ≡ false
+  pub may_arrive : first_place_refusal (move_tests meta m e to down at) ≡ None → place_eq (place_of m e) to ≡ false
       → AllPass (arrival_tests meta m to xs at) → MayMoveTo meta m e (place_of m e) to outer up down
   may_arrive open_ differ tests =
       let t = passed (move_tests meta m e to down at) open_ in
@@ -103,7 +103,7 @@ module _ (meta : Meta) (sound : Sound meta) (m : State) (good : Good meta m) (e 
         ranked = tests.1.1.0;
       }
 
-  pub leads : first_refusal (move_tests meta m e to down at) ≡ None → fold meta m (move_made m e to at up down) ≡ Some (move_after m e to at)
+  pub leads : first_place_refusal (move_tests meta m e to down at) ≡ None → fold meta m (move_made m e to at up down) ≡ Some (move_after m e to at)
   leads open_ =
       let t = passed (move_tests meta m e to down at) open_ in
       elim (place_eq (place_of m e) to) as (λ b. place_eq (place_of m e) to ≡ b → AllPass (cond b (within_tests e xs at) (arrival_tests meta m to xs at))
@@ -115,7 +115,7 @@ module _ (meta : Meta) (sound : Sound meta) (m : State) (good : Good meta m) (e 
       ] refl t.1.1
 
   -- the element stands at the index
-  pub moved_stands : first_refusal (move_tests meta m e to down at) ≡ None → Placed m (move_after m e to at) e to inner
+  pub moved_stands : first_place_refusal (move_tests meta m e to down at) ≡ None → Placed m (move_after m e to at) e to inner
   moved_stands open_ =
       let t = passed (move_tests meta m e to down at) open_ in
       elim (place_eq (place_of m e) to) as (λ b. place_eq (place_of m e) to ≡ b → AllPass (cond b (within_tests e xs at) (arrival_tests meta m to xs at))
@@ -132,7 +132,7 @@ move_leads meta sound m good e to at live is down above_to open_ steps move =
     let same : down ≡ move.down = one_chain m (Some to) down move.down above_to move.above_to in
     ap (fold meta m) move.made
     ∙ leads meta sound m good e to at live is move.up move.down move.above_from move.above_to
-    (subst (λ d. first_refusal (move_tests meta m e to d at) ≡ None) same open_)
+    (subst (λ d. first_place_refusal (move_tests meta m e to d at) ≡ None) same open_)
 
 pub moved_stands_there : MovedStands
 moved_stands_there meta sound m good e to at live is down above_to open_ =

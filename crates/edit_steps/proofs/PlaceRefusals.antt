@@ -16,7 +16,7 @@ use Rattle.edit_steps.proofs.Reranks.{no_reranks}
 use Rattle.edit_steps.specs.declared.move_fault.MoveFault.{MoveFault}
 use Rattle.edit_steps.specs.declared.move_fault.MoveFault.TheVariants.{Bound, NoEntry, WrongType, WouldCycle}
 use Rattle.edit_steps.specs.Subtree.{is_among}
-use Rattle.edit_steps.specs.MoveRefusals.{first_refusal, spot_refusal, within_tests, arrival_tests, move_refusal, place_of}
+use Rattle.edit_steps.specs.MoveRefusals.{first_place_refusal, spot_refusal, within_tests, arrival_tests, move_refusal, place_of}
 
 -- the end is an index
 own_le : (n : ℕ) → nat_le n n ≡ true
@@ -60,10 +60,10 @@ arrival_open false b c f h = cc
 pub move_first : (meta : Meta) (m : State) (e : IdBytes) (to : Place) (above : List IdBytes) (at : Option ℕ) (same : Bool)
     → may_move meta m (get m.kind e) to ≡ true → is_among above e ≡ false → place_eq (place_of m e) to ≡ same
     → let xs = children m.place m.prank to
-    in move_refusal meta m e to above at ≡ first_refusal (cond same (within_tests e xs at) (arrival_tests meta m to xs at))
+    in move_refusal meta m e to above at ≡ first_place_refusal (cond same (within_tests e xs at) (arrival_tests meta m to xs at))
 move_first meta m e to above at same may none is =
     let xs = children m.place m.prank to in
-    λ i. cond (may i) (cond (not (none i)) (first_refusal (cond (is i) (within_tests e xs at) (arrival_tests meta m to xs at))) (Some WouldCycle))
+    λ i. cond (may i) (cond (not (none i)) (first_place_refusal (cond (is i) (within_tests e xs at) (arrival_tests meta m to xs at))) (Some WouldCycle))
     (Some WrongType)
 
 -- an element that may not stand there is of a wrong type
@@ -72,4 +72,4 @@ pub no_class : (meta : Meta) (m : State) (e : IdBytes) (to : Place) (above : Lis
 no_class meta m e to above at h =
     let xs = children m.place m.prank to in
     ap (λ b. cond b (cond (not (is_among above e))
-    (first_refusal (cond (place_eq (place_of m e) to) (within_tests e xs at) (arrival_tests meta m to xs at))) (Some WouldCycle)) (Some WrongType)) h
+    (first_place_refusal (cond (place_eq (place_of m e) to) (within_tests e xs at) (arrival_tests meta m to xs at))) (Some WouldCycle)) (Some WrongType)) h

@@ -18,16 +18,16 @@ use Rattle.edit_steps.specs.declared.link_fault.LinkFault.{LinkFault}
 use Rattle.edit_steps.specs.declared.link_fault.LinkFault.TheVariants.{Bound, AlreadyThere, NoEntry, WrongType, Memory}
 
 -- the fault of an edit that a fault of a call is
-abbrev pub edit_fault : LinkFault → EditFault
-edit_fault Bound = faults.Bound
-edit_fault AlreadyThere = faults.AlreadyThere
-edit_fault NoEntry = faults.NoEntry
-edit_fault WrongType = faults.WrongType
-edit_fault Memory = faults.Memory
+abbrev pub edit_fault_of_link : LinkFault → EditFault
+edit_fault_of_link Bound = faults.Bound
+edit_fault_of_link AlreadyThere = faults.AlreadyThere
+edit_fault_of_link NoEntry = faults.NoEntry
+edit_fault_of_link WrongType = faults.WrongType
+edit_fault_of_link Memory = faults.Memory
 
 -- out of memory, or the refusal
-abbrev pub IsRefusal : Option EditFault → LinkFault → Type 0
-IsRefusal first e = (e ≡ Memory) ⊎ (first ≡ Some (edit_fault e))
+abbrev pub IsLinkRefusal : Option EditFault → LinkFault → Type 0
+IsLinkRefusal first e = (e ≡ Memory) ⊎ (first ≡ Some (edit_fault_of_link e))
 
 -- out of memory, or Bound where the test fails
 abbrev pub IsFull : Bool → LinkFault → Type 0

@@ -17,13 +17,13 @@ use Rattle.edit_steps.specs.declared.move_fault.MoveFault.TheVariants.{WouldCycl
 use Rattle.edit_steps.specs.Subtree.{is_among}
 
 -- the refusal of the first test that fails
-abbrev pub first_refusal : List (Bool × MoveFault) → Option MoveFault
-first_refusal [] = None
-first_refusal (t ∷ ts) = cond t.0 (first_refusal ts) (Some t.1)
+abbrev pub first_place_refusal : List (Bool × MoveFault) → Option MoveFault
+first_place_refusal [] = None
+first_place_refusal (t ∷ ts) = cond t.0 (first_place_refusal ts) (Some t.1)
 
 -- out of memory, or the refusal
-abbrev pub IsRefusal : Option MoveFault → MoveFault → Type 0
-IsRefusal first e = (e ≡ Memory) ⊎ (first ≡ Some e)
+abbrev pub IsPlaceRefusal : Option MoveFault → MoveFault → Type 0
+IsPlaceRefusal first e = (e ≡ Memory) ⊎ (first ≡ Some e)
 
 -- the root, or a containment of a live element
 abbrev pub is_place : Meta → State → Place → Bool
@@ -41,7 +41,7 @@ spot_tests others k = (nat_le k (length others), NoEntry) ∷ (is_some (spot oth
 
 -- why a spot among others is refused, None for the end
 abbrev pub spot_refusal : List Entry → Option ℕ → Option MoveFault
-spot_refusal others at = first_refusal (spot_tests others (unwrap_or at (length others)))
+spot_refusal others at = first_place_refusal (spot_tests others (unwrap_or at (length others)))
 
 -- a creation: the class may stand in the place, which has room, and there is a rank
 abbrev pub create_tests : Meta → State → ℕ → Place → List (Bool × MoveFault)
@@ -53,7 +53,7 @@ create_tests meta m c p =
 
 -- why a creation is refused
 abbrev pub create_refusal : Meta → State → ℕ → Place → Option MoveFault
-create_refusal meta m c p = first_refusal (create_tests meta m c p)
+create_refusal meta m c p = first_place_refusal (create_tests meta m c p)
 
 -- where an element stands
 abbrev pub place_of : State → IdBytes → Place
@@ -83,4 +83,4 @@ move_tests meta m e to above at =
 
 -- why a move is refused at an index, None for the end
 abbrev pub move_refusal : Meta → State → IdBytes → Place → List IdBytes → Option ℕ → Option MoveFault
-move_refusal meta m e to above at = first_refusal (move_tests meta m e to above at)
+move_refusal meta m e to above at = first_place_refusal (move_tests meta m e to above at)

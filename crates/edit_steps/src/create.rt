@@ -3,7 +3,7 @@ ghost use Rattle.std.specs.Prelude.{◌≡◌, IfOk, IfErr, OnOk, None, Some};
 ghost use Rattle.model_state.specs.Listing.{children};
 ghost use Rattle.edit_steps.specs.Spot.{end_spot};
 ghost use Rattle.edit_steps.specs.Places.{create_made, rerank_places};
-ghost use Rattle.edit_steps.specs.MoveRefusals.{IsRefusal, create_refusal};
+ghost use Rattle.edit_steps.specs.MoveRefusals.{IsPlaceRefusal, create_refusal};
 
 use crate::MoveFault;
 use crate::spots::{Spot, last_spot};
@@ -23,7 +23,7 @@ pub fn creation_spot<L: Look>(
     ensures steps { IfOk result (λ s. let xs = children (L.state look.now).place (L.state look.now).prank place.now in s.steps ≡ rerank_places xs (end_spot xs).ranks) }
     ensures rank { IfOk result (λ s. (end_spot (children (L.state look.now).place (L.state look.now).prank place.now)).rank ≡ Some s.rank) }
     ensures taken { OnOk result (create_refusal meta.now (L.state look.now) class place.now ≡ None) }
-    ensures refused { IfErr result (λ x. IsRefusal (create_refusal meta.now (L.state look.now) class place.now) x) }
+    ensures refused { IfErr result (λ x. IsPlaceRefusal (create_refusal meta.now (L.state look.now) class place.now) x) }
 {
     if !may_stand(look, meta, class, place) {
         return Err(MoveFault::WrongType);

@@ -3,11 +3,11 @@ ghost use Rattle.std.specs.Prelude.{◌≡◌, ◌++◌, OnOk, IfOk, IfErr, None
 ghost use Rattle.model_state.specs.Listing.{targets};
 ghost use Rattle.edit_steps.specs.Spot.{end_spot, rank_for, ranks_of, spot};
 ghost use Rattle.edit_steps.specs.Rows.{reranks};
-ghost use Rattle.edit_steps.specs.LinkRefusals.{IsRefusal, enter_refusal};
+ghost use Rattle.edit_steps.specs.LinkRefusals.{IsLinkRefusal, enter_refusal};
 
 use crate::LinkFault;
+use crate::insertions::{Insertion, rerank};
 use crate::link::index_or_end;
-use crate::openings::{Opening, rerank};
 use model_state::{Entry, Id, Look, Step, rank_between};
 use std::alloc::Global;
 use texts::List;
@@ -24,17 +24,17 @@ fn enter_list(
     ensures steps { OnOk result (steps.new ≡ steps.old ++ reranks a.now f others (spot others (unwrap_or at (length others))).ranks) }
     ensures rank { IfOk result (λ r. (spot others (unwrap_or at (length others))).rank ≡ Some r) }
     ensures taken { OnOk result (enter_refusal others at ≡ None) }
-    ensures refused { IfErr result (λ e. IsRefusal (enter_refusal others at) e) }
+    ensures refused { IfErr result (λ e. IsLinkRefusal (enter_refusal others at) e) }
 {
     let index = index_or_end(at, others.len());
     if index > others.len() {
         return Err(LinkFault::NoEntry);
     }
-    let Some(opening) = Opening::find(others, index) else {
+    let Some(insertion) = Insertion::find(others, index) else {
         return Err(LinkFault::Bound);
     };
-    rerank(alloc, a, f, &opening, steps)?;
-    Ok(opening.rank)
+    rerank(alloc, a, f, &insertion, steps)?;
+    Ok(insertion.rank)
 }
 
 /// The rank after the last target of a feature, None where none is free.
@@ -56,7 +56,7 @@ pub fn enter_last<L: Look>(
     ensures steps { OnOk result (let xs = targets (L.state look.now).row a.now f in steps.new ≡ steps.old ++ reranks a.now f xs (end_spot xs).ranks) }
     ensures rank { IfOk result (λ r. (end_spot (targets (L.state look.now).row a.now f)).rank ≡ Some r) }
     ensures taken { OnOk result (enter_refusal (targets (L.state look.now).row a.now f) None ≡ None) }
-    ensures refused { IfErr result (λ e. IsRefusal (enter_refusal (targets (L.state look.now).row a.now f) None) e) }
+    ensures refused { IfErr result (λ e. IsLinkRefusal (enter_refusal (targets (L.state look.now).row a.now f) None) e) }
 {
     if let Some(rank) = free_rank_after(look, a, f) {
         return Ok(rank);
@@ -77,7 +77,7 @@ pub fn enter<L: Look>(
     ensures steps { OnOk result (let xs = targets (L.state look.now).row a.now f in steps.new ≡ steps.old ++ reranks a.now f xs (spot xs (unwrap_or at (length xs))).ranks) }
     ensures rank { IfOk result (λ r. let xs = targets (L.state look.now).row a.now f in (spot xs (unwrap_or at (length xs))).rank ≡ Some r) }
     ensures taken { OnOk result (enter_refusal (targets (L.state look.now).row a.now f) at ≡ None) }
-    ensures refused { IfErr result (λ e. IsRefusal (enter_refusal (targets (L.state look.now).row a.now f) at) e) }
+    ensures refused { IfErr result (λ e. IsLinkRefusal (enter_refusal (targets (L.state look.now).row a.now f) at) e) }
 {
     match at {
         None => enter_last(alloc, look, a, f, steps),

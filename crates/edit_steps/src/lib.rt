@@ -11,6 +11,7 @@ mod delete;
 mod entering;
 mod fault;
 mod features;
+mod insertions;
 mod laws;
 mod link;
 mod link_fault;
@@ -18,7 +19,6 @@ mod link_laws;
 mod look_up;
 mod move_fault;
 mod moves;
-mod openings;
 mod place;
 mod place_laws;
 mod reorder;
@@ -36,6 +36,7 @@ pub use create::{create_at, creation_spot};
 pub use delete::delete_steps;
 pub use fault::EditFault;
 pub use features::{Slot, Sort, slots_of};
+pub use insertions::Insertion;
 pub use laws::{
     law_of_attribute_edits, law_of_creation, law_of_many_value_edits, law_of_moves,
     law_of_reference_edits, law_of_standing,
@@ -46,7 +47,6 @@ pub use link_laws::law_of_calls;
 pub use look_up::rank_of_mirror;
 pub use move_fault::MoveFault;
 pub use moves::move_steps;
-pub use openings::Opening;
 pub use place::is_containment;
 pub use place_laws::{
     law_of_containers, law_of_creation_steps, law_of_deletion_steps, law_of_move_steps,

@@ -6,7 +6,7 @@ ghost use Rattle.model_state.specs.Listing.{targets};
 ghost use Rattle.edit_steps.specs.Rows.{link_step};
 ghost use Rattle.edit_steps.specs.References.{holds_one, link_made};
 ghost use Rattle.edit_steps.specs.Refusals.{first_refusal, link_index, link_refusal};
-ghost use Rattle.edit_steps.specs.LinkRefusals.{IsReference, IsRefusal, list_tests};
+ghost use Rattle.edit_steps.specs.LinkRefusals.{IsReference, IsLinkRefusal, list_tests};
 
 use crate::LinkFault;
 use crate::bounds::has_room_for;
@@ -83,7 +83,7 @@ fn link<L: Look>(
 ) -> Result<List<Step>, LinkFault>
     ensures made { IfOk result (λ s. s ≡ link_made meta.now (L.state look.now).row a.now f b.now (link_index (L.state look.now) a.now f at)) }
     ensures taken { OnOk result (first_refusal (list_tests meta.now (L.state look.now) a.now f b.now (link_index (L.state look.now) a.now f at)) ≡ None) }
-    ensures refused { IfErr result (λ e. IsRefusal (first_refusal (list_tests meta.now (L.state look.now) a.now f b.now (link_index (L.state look.now) a.now f at))) e) }
+    ensures refused { IfErr result (λ e. IsLinkRefusal (first_refusal (list_tests meta.now (L.state look.now) a.now f b.now (link_index (L.state look.now) a.now f at))) e) }
 {
     let opposite = opposite_of(meta, f);
     let mut steps = List::new(alloc);
@@ -116,7 +116,7 @@ pub fn link_steps<L: Look>(
     requires target { is_some (get (L.state look.now).kind b.now) ≡ true }
     ensures made { IfOk result (λ s. s ≡ link_made meta.now (L.state look.now).row a.now f b.now (unwrap_or at (length (targets (L.state look.now).row a.now f)))) }
     ensures taken { OnOk result (link_refusal meta.now (L.state look.now) a.now f b.now at ≡ None) }
-    ensures refused { IfErr result (λ e. IsRefusal (link_refusal meta.now (L.state look.now) a.now f b.now at) e) }
+    ensures refused { IfErr result (λ e. IsLinkRefusal (link_refusal meta.now (L.state look.now) a.now f b.now at) e) }
 {
     if !may_link(meta, look.class(a), f, look.class(b)) {
         return Err(LinkFault::WrongType);

@@ -1,6 +1,6 @@
 //! The refusals of an edit of a plain reference: an upper bound, a duplicate, a missing entry, a wrong type.
 ghost use Rattle.std.specs.Prelude.{◌≡◌};
-ghost use Rattle.edit_steps.specs.LinkRefusals.{edit_fault};
+ghost use Rattle.edit_steps.specs.LinkRefusals.{edit_fault_of_link};
 ghost use Rattle.edit_steps.specs.declared.link_fault.LinkFault.TheVariants.{Memory};
 
 use crate::EditFault;
@@ -36,7 +36,7 @@ impl From<AllocError> for LinkFault {
 }
 
 impl From<LinkFault> for EditFault {
-    ghost from_gives = { λ fault e. e ≡ edit_fault fault };
+    ghost from_gives = { λ fault e. e ≡ edit_fault_of_link fault };
 
     fn from(fault: LinkFault) -> EditFault {
         match fault {

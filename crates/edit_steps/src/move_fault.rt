@@ -1,6 +1,6 @@
 //! The refusals of a place: a containment cycle, an upper bound, a wrong type, an index that isn't there.
 ghost use Rattle.std.specs.Prelude.{◌≡◌};
-ghost use Rattle.edit_steps.specs.EditFaults.{edit_fault};
+ghost use Rattle.edit_steps.specs.EditFaults.{edit_fault_of_move};
 ghost use Rattle.edit_steps.specs.declared.move_fault.MoveFault.TheVariants.{Memory};
 
 use crate::EditFault;
@@ -36,7 +36,7 @@ impl From<AllocError> for MoveFault {
 }
 
 impl From<MoveFault> for EditFault {
-    ghost from_gives = { λ fault e. e ≡ edit_fault fault };
+    ghost from_gives = { λ fault e. e ≡ edit_fault_of_move fault };
 
     fn from(fault: MoveFault) -> EditFault {
         match fault {

@@ -6,7 +6,7 @@ ghost use Rattle.model_state.specs.State.{is_live};
 ghost use Rattle.edit_steps.specs.Places.{move_to_made, move_within_made};
 ghost use Rattle.edit_steps.specs.References.{without_entry};
 ghost use Rattle.edit_steps.specs.Subtree.{is_among};
-ghost use Rattle.edit_steps.specs.MoveRefusals.{IsPlace, IsRefusal, arrival_tests, first_refusal, within_tests};
+ghost use Rattle.edit_steps.specs.MoveRefusals.{IsPlace, IsPlaceRefusal, arrival_tests, first_place_refusal, within_tests};
 ghost use Rattle.edit_steps.specs.Moves.{HasRefusal, IsMove, IsMoveRefusal};
 
 use crate::spots::{arrival_spot, find_spot};
@@ -34,8 +34,8 @@ fn move_within<L: Look>(
 ) -> Result<List<Step>, MoveFault>
     requires { rank ≡ rank_at (L.state look.now).prank e.now }
     ensures made { IfOk result (λ s. let xs = children (L.state look.now).place (L.state look.now).prank place.now in s ≡ move_within_made (L.state look.now) e.now place.now (unwrap_or at (length (without_entry e.now xs)))) }
-    ensures taken { OnOk result (first_refusal (within_tests e.now (children (L.state look.now).place (L.state look.now).prank place.now) at) ≡ None) }
-    ensures refused { IfErr result (λ x. IsRefusal (first_refusal (within_tests e.now (children (L.state look.now).place (L.state look.now).prank place.now) at)) x) }
+    ensures taken { OnOk result (first_place_refusal (within_tests e.now (children (L.state look.now).place (L.state look.now).prank place.now) at) ≡ None) }
+    ensures refused { IfErr result (λ x. IsPlaceRefusal (first_place_refusal (within_tests e.now (children (L.state look.now).place (L.state look.now).prank place.now) at)) x) }
 {
     let there = look.children(alloc, place)?;
     let others = without_entry(alloc, there.as_slice(), e)?;
@@ -72,8 +72,8 @@ fn move_to<L: Look>(
 ) -> Result<List<Step>, MoveFault>
     requires { from.now.rank ≡ rank_at (L.state look.now).prank e.now }
     ensures made { IfOk result (λ s. let xs = children (L.state look.now).place (L.state look.now).prank to.now in s ≡ move_to_made (L.state look.now) e.now from.now.place to.now (unwrap_or at (length xs)) above_from above_to) }
-    ensures taken { OnOk result (first_refusal (arrival_tests meta.now (L.state look.now) to.now (children (L.state look.now).place (L.state look.now).prank to.now) at) ≡ None) }
-    ensures refused { IfErr result (λ x. IsRefusal (first_refusal (arrival_tests meta.now (L.state look.now) to.now (children (L.state look.now).place (L.state look.now).prank to.now) at)) x) }
+    ensures taken { OnOk result (first_place_refusal (arrival_tests meta.now (L.state look.now) to.now (children (L.state look.now).place (L.state look.now).prank to.now) at) ≡ None) }
+    ensures refused { IfErr result (λ x. IsPlaceRefusal (first_place_refusal (arrival_tests meta.now (L.state look.now) to.now (children (L.state look.now).place (L.state look.now).prank to.now) at)) x) }
 {
     let spot = arrival_spot(alloc, look, to, at)?;
     if !has_room(look, meta, to) {

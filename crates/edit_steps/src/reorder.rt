@@ -6,11 +6,11 @@ ghost use Rattle.edit_steps.specs.Spot.{rank_for, ranks_of, spot};
 ghost use Rattle.edit_steps.specs.Rows.{reranks};
 ghost use Rattle.edit_steps.specs.References.{reorder_made, stands_at, without_entry};
 ghost use Rattle.edit_steps.specs.Refusals.{reorder_refusal};
-ghost use Rattle.edit_steps.specs.LinkRefusals.{IsReference, IsRefusal};
+ghost use Rattle.edit_steps.specs.LinkRefusals.{IsReference, IsLinkRefusal};
 ghost use Rattle.model_state.specs.Ranks.{most_entries};
 
 use crate::LinkFault;
-use crate::openings::{Opening, rerank};
+use crate::insertions::{Insertion, rerank};
 use ecore_meta::Metamodel;
 use model_state::{Entry, Id, Look, Step};
 use std::alloc::{AllocError, Global};
@@ -48,7 +48,7 @@ fn reorder(
     f: u32,
     b: &Id,
     old: u64,
-    here: &Opening,
+    here: &Insertion,
 ) -> Result<List<Step>, AllocError>
     requires reranks { here.now.reranks ≡ not (is_some (rank_for (ranks_of here.now.others) here.now.index)) }
     requires small { here.now.reranks ≡ true → length here.now.others < most_entries }
@@ -85,7 +85,7 @@ pub fn reorder_steps<L: Look>(
     requires reference { IsReference meta.now (L.state look.now) a.now f }
     ensures made { IfOk result (λ s. s ≡ reorder_made (L.state look.now).row a.now f b.now at) }
     ensures taken { OnOk result (reorder_refusal (L.state look.now) a.now f b.now at ≡ None) }
-    ensures refused { IfErr result (λ e. IsRefusal (reorder_refusal (L.state look.now) a.now f b.now at) e) }
+    ensures refused { IfErr result (λ e. IsLinkRefusal (reorder_refusal (L.state look.now) a.now f b.now at) e) }
 {
     // Only the contract needs it.
     let _meta = meta;
@@ -101,7 +101,7 @@ pub fn reorder_steps<L: Look>(
         return Ok(List::new(alloc));
     }
     let others = without_entry(alloc, mine.as_slice(), b)?;
-    let Some(here) = Opening::find(others, index) else {
+    let Some(here) = Insertion::find(others, index) else {
         return Err(LinkFault::Bound);
     };
     Ok(reorder(alloc, a, f, b, old, &here)?)

@@ -7,7 +7,7 @@ ghost use Rattle.model_state.specs.Listing.{targets};
 ghost use Rattle.edit_steps.specs.Rows.{link_step, unlinks};
 ghost use Rattle.edit_steps.specs.References.{holds_one, set_ref_made, displace, rank_there, reranks_there};
 ghost use Rattle.edit_steps.specs.Refusals.{first_refusal, set_ref_refusal};
-ghost use Rattle.edit_steps.specs.LinkRefusals.{IsReference, IsRefusal, mirror_tests};
+ghost use Rattle.edit_steps.specs.LinkRefusals.{IsReference, IsLinkRefusal, mirror_tests};
 ghost use Rattle.model_state.specs.Ranks.{rank_gap};
 
 use crate::LinkFault;
@@ -30,7 +30,7 @@ fn set_ref<L: Look>(
 ) -> Result<List<Step>, LinkFault>
     ensures made { IfOk result (λ s. s ≡ unlinks (L.state look.now).row (opposite_of meta.now f) a.now f (targets (L.state look.now).row a.now f) ++ (displace meta.now (L.state look.now).row (opposite_of meta.now f) f b.now ++ (reranks_there meta.now (L.state look.now).row (opposite_of meta.now f) b.now ++ link_step (opposite_of meta.now f) a.now f rank_gap b.now (unwrap_or (rank_there meta.now (L.state look.now).row (opposite_of meta.now f) b.now) 0) ∷ []))) }
     ensures taken { OnOk result (first_refusal (mirror_tests meta.now (L.state look.now) (opposite_of meta.now f) b.now) ≡ None) }
-    ensures refused { IfErr result (λ e. IsRefusal (first_refusal (mirror_tests meta.now (L.state look.now) (opposite_of meta.now f) b.now)) e) }
+    ensures refused { IfErr result (λ e. IsLinkRefusal (first_refusal (mirror_tests meta.now (L.state look.now) (opposite_of meta.now f) b.now)) e) }
 {
     let opposite = opposite_of(meta, f);
     let mut steps = List::new(alloc);
@@ -61,7 +61,7 @@ pub fn set_ref_steps<L: Look>(
     requires target { is_some (get (L.state look.now).kind b.now) ≡ true }
     ensures made { IfOk result (λ s. s ≡ set_ref_made meta.now (L.state look.now).row a.now f b.now) }
     ensures taken { OnOk result (set_ref_refusal meta.now (L.state look.now) a.now f b.now ≡ None) }
-    ensures refused { IfErr result (λ e. IsRefusal (set_ref_refusal meta.now (L.state look.now) a.now f b.now) e) }
+    ensures refused { IfErr result (λ e. IsLinkRefusal (set_ref_refusal meta.now (L.state look.now) a.now f b.now) e) }
 {
     if !may_link(meta, look.class(a), f, look.class(b)) {
         return Err(LinkFault::WrongType);

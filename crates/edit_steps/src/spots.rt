@@ -3,10 +3,10 @@ ghost use Rattle.std.specs.Prelude.{◌≡◌, ◌<◌, true, not, IfOk, IfErr, 
 ghost use Rattle.edit_steps.specs.Spot.{end_spot, evened, rank_for, ranks_of, spot};
 ghost use Rattle.edit_steps.specs.Places.{rerank_places};
 ghost use Rattle.model_state.specs.Listing.{children};
-ghost use Rattle.edit_steps.specs.MoveRefusals.{IsRefusal, spot_refusal};
+ghost use Rattle.edit_steps.specs.MoveRefusals.{IsPlaceRefusal, spot_refusal};
 ghost use Rattle.model_state.specs.Ranks.{most_entries};
 
-use crate::{MoveFault, Opening, index_or_end};
+use crate::{Insertion, MoveFault, index_or_end};
 use model_state::{Entry, Look, Place, RANK_GAP, Step, rank_between};
 use std::alloc::{AllocError, Global};
 use texts::List;
@@ -40,13 +40,13 @@ fn even_reranks(alloc: Global, list: &[Entry]) -> Result<List<Step>, AllocError>
 }
 
 /// The reranks of the others, where there is no room.
-fn reranks(alloc: Global, opening: &Opening) -> Result<List<Step>, AllocError>
-    requires reranks { opening.now.reranks ≡ not (is_some (rank_for (ranks_of opening.now.others) opening.now.index)) }
-    requires small { opening.now.reranks ≡ true → length opening.now.others < most_entries }
-    ensures { IfOk result (λ s. s ≡ rerank_places opening.now.others (spot opening.now.others opening.now.index).ranks) }
+fn reranks(alloc: Global, insertion: &Insertion) -> Result<List<Step>, AllocError>
+    requires reranks { insertion.now.reranks ≡ not (is_some (rank_for (ranks_of insertion.now.others) insertion.now.index)) }
+    requires small { insertion.now.reranks ≡ true → length insertion.now.others < most_entries }
+    ensures { IfOk result (λ s. s ≡ rerank_places insertion.now.others (spot insertion.now.others insertion.now.index).ranks) }
 {
-    if opening.reranks {
-        even_reranks(alloc, opening.others.as_slice())
+    if insertion.reranks {
+        even_reranks(alloc, insertion.others.as_slice())
     } else {
         Ok(List::new(alloc))
     }
@@ -57,18 +57,18 @@ pub fn find_spot(alloc: Global, others: List<Entry>, at: Option<u32>) -> Result<
     ensures steps { IfOk result (λ s. s.steps ≡ rerank_places others (spot others (unwrap_or at (length others))).ranks) }
     ensures rank { IfOk result (λ s. (spot others (unwrap_or at (length others))).rank ≡ Some s.rank) }
     ensures taken { OnOk result (spot_refusal others at ≡ None) }
-    ensures refused { IfErr result (λ e. IsRefusal (spot_refusal others at) e) }
+    ensures refused { IfErr result (λ e. IsPlaceRefusal (spot_refusal others at) e) }
 {
     let index = index_or_end(at, others.len());
     if index > others.len() {
         return Err(MoveFault::NoEntry);
     }
-    let Some(opening) = Opening::find(others, index) else {
+    let Some(insertion) = Insertion::find(others, index) else {
         return Err(MoveFault::Bound);
     };
     Ok(Spot {
-        steps: reranks(alloc, &opening)?,
-        rank: opening.rank,
+        steps: reranks(alloc, &insertion)?,
+        rank: insertion.rank,
     })
 }
 
@@ -85,7 +85,7 @@ pub fn last_spot<L: Look>(alloc: Global, look: &L, place: &Place) -> Result<Spot
     ensures steps { IfOk result (λ s. let xs = children (L.state look.now).place (L.state look.now).prank place.now in s.steps ≡ rerank_places xs (end_spot xs).ranks) }
     ensures rank { IfOk result (λ s. (end_spot (children (L.state look.now).place (L.state look.now).prank place.now)).rank ≡ Some s.rank) }
     ensures taken { OnOk result (spot_refusal (children (L.state look.now).place (L.state look.now).prank place.now) None ≡ None) }
-    ensures refused { IfErr result (λ e. IsRefusal (spot_refusal (children (L.state look.now).place (L.state look.now).prank place.now) None) e) }
+    ensures refused { IfErr result (λ e. IsPlaceRefusal (spot_refusal (children (L.state look.now).place (L.state look.now).prank place.now) None) e) }
 {
     if let Some(rank) = rank_after(look, place) {
         return Ok(Spot {
@@ -108,7 +108,7 @@ pub fn arrival_spot<L: Look>(
     ensures steps { IfOk result (λ s. let xs = children (L.state look.now).place (L.state look.now).prank place.now in s.steps ≡ rerank_places xs (spot xs (unwrap_or at (length xs))).ranks) }
     ensures rank { IfOk result (λ s. let xs = children (L.state look.now).place (L.state look.now).prank place.now in (spot xs (unwrap_or at (length xs))).rank ≡ Some s.rank) }
     ensures taken { OnOk result (spot_refusal (children (L.state look.now).place (L.state look.now).prank place.now) at ≡ None) }
-    ensures refused { IfErr result (λ e. IsRefusal (spot_refusal (children (L.state look.now).place (L.state look.now).prank place.now) at) e) }
+    ensures refused { IfErr result (λ e. IsPlaceRefusal (spot_refusal (children (L.state look.now).place (L.state look.now).prank place.now) at) e) }
 {
     match at {
         None => last_spot(alloc, look, place),

@@ -5,7 +5,7 @@ ghost use Rattle.model_state.specs.Good.{Good};
 ghost use Rattle.edit_steps.specs.Rows.{unlink_step, unlinks};
 ghost use Rattle.edit_steps.specs.References.{unlink_made};
 ghost use Rattle.edit_steps.specs.Refusals.{unlink_refusal};
-ghost use Rattle.edit_steps.specs.LinkRefusals.{IsReference, IsRefusal};
+ghost use Rattle.edit_steps.specs.LinkRefusals.{IsReference, IsLinkRefusal};
 
 use crate::LinkFault;
 use crate::look_up::rank_of_mirror;
@@ -108,7 +108,7 @@ pub fn unlink_steps<L: Look>(
     requires reference { IsReference meta.now (L.state look.now) a.now f }
     ensures made { IfOk result (λ s. s ≡ unlink_made meta.now (L.state look.now).row a.now f b.now) }
     ensures taken { OnOk result (unlink_refusal (L.state look.now) a.now f b.now ≡ None) }
-    ensures refused { IfErr result (λ e. IsRefusal (unlink_refusal (L.state look.now) a.now f b.now) e) }
+    ensures refused { IfErr result (λ e. IsLinkRefusal (unlink_refusal (L.state look.now) a.now f b.now) e) }
 {
     let Some(ra) = look.row(a, f, b) else {
         return Err(LinkFault::NoEntry);

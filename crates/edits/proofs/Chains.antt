@@ -10,7 +10,7 @@ use Rattle.model_state.specs.Steps.{place_live}
 use Rattle.model_state.specs.Good.{Good}
 use Rattle.model_state.specs.Chains.{IsChain}
 use Rattle.edit_steps.specs.declared.move_fault.MoveFault.{MoveFault}
-use Rattle.edit_steps.specs.MoveRefusals.{IsRefusal, move_refusal, place_of}
+use Rattle.edit_steps.specs.MoveRefusals.{IsPlaceRefusal, move_refusal, place_of}
 use Rattle.edit_steps.specs.Moves.{IsMove, HasRefusal, IsMoveRefusal, move_made}
 use Rattle.edit_steps.proofs.Containers.{has_chain}
 use Rattle.edit_steps.specs.Containers.{containers_of}
@@ -40,6 +40,6 @@ module _ (meta : Meta) (m : State) (good : Good meta m) where
   refusal_is e to at first has = ap (λ down. move_refusal meta m e to down at) (containers_are to has.down has.above_to) ∙ has.first_is
 
   pub fault_is : (e : IdBytes) (to : Place) (at : Option ℕ) (fault : MoveFault) → IsMoveRefusal meta m e to at fault
-      → IsRefusal (move_refusal meta m e to (containers_of m to) at) fault
+      → IsPlaceRefusal (move_refusal meta m e to (containers_of m to) at) fault
   fault_is e to at fault (inl none) = inl none
   fault_is e to at fault (inr has) = inr (refusal_is e to at (Some fault) has)

@@ -7,12 +7,12 @@ use Rattle.model_state.specs.declared.step.Step.{Step}
 use Rattle.model_state.specs.State.{State}
 use Rattle.model_state.specs.Steps.{fold}
 use Rattle.model_state.specs.Good.{Good, Sound}
-use Rattle.emfjson_io.specs.Values.{value_of}
-use Rattle.emfjson_io.proofs.Fits.{read_fits}
+use Rattle.emfjson_values.specs.Values.{value_of}
+use Rattle.emfjson_values.proofs.Fits.{read_fits}
 use Rattle.edits.specs.declared.edit.Edit.{Edit}
 use Rattle.edits.specs.declared.edit.Recorded.{Recorded}
 use Rattle.edit_steps.specs.declared.fault.EditFault.{EditFault}
-use Rattle.edits.specs.Edits.{Effect, effect_of, made, after, operation_kind, operation_of, recording, recording_of, recorded_of}
+use Rattle.edits.specs.Edits.{Effect, effect_of, effect_steps, after_effect, operation_kind, operation_of, recording, recording_of, recorded_of}
 use Rattle.edits.proofs.Taken.{edits_meet, edits_keep_good}
 use Rattle.edits.proofs.Unchanged.{edits_idle}
 use Rattle.edits.specs.Recording.{recorded}
@@ -36,7 +36,7 @@ module _ (meta : Meta) (sound : Sound meta) (m : State) (good : Good meta m) (ws
   leads_by (Err fault) is h = cc
   leads_by (Ok effect) is h =
       let kind = operation_kind effect in
-      let ss = made meta m effect in
+      let ss = effect_steps meta m effect in
       let operation : operation_of kind ss ≡ r.operation = ap (λ (x : Recorded). x.operation) (same_recorded (recording meta m effect) r h) in
       let idle = edits_idle meta sound m good (value_of meta) (read_fits meta) ws edit effect is in
       record {
@@ -60,5 +60,5 @@ pub keeps_good : (meta : Meta) → Sound meta → (m : State) → Good meta m �
     → Answers answer (recorded meta m ws edit) → IfOk answer (KeepsGood meta m)
 keeps_good meta sound m good ws edit (Ok r) is =
     let leads = recording_leads meta sound m good ws edit r is in
-    record { left = after meta m leads.effect; run = leads.run; good = leads.good; paired = leads.good.rows.mirrored }
+    record { left = after_effect meta m leads.effect; run = leads.run; good = leads.good; paired = leads.good.rows.mirrored }
 keeps_good meta sound m good ws edit (Err fault) is = tt

@@ -8,14 +8,15 @@ use Rattle.edit_steps.specs.Containers.{containers_of}
 use Rattle.edit_steps.proofs.Containers.{parent_live}
 use Rattle.edit_steps.proofs.Keeps.{delete_keeps}
 use Rattle.edit_steps.proofs.MoveRefused.{moved_stands_there}
-use Rattle.edits.specs.Edits.{Effect, Creates, Moves, Deletes, Puts, Clears, Inserts, Removes, Shifts, Refers, Forgets, Links, Unlinks, Reorders, after}
+use Rattle.edits.specs.Edits.{Effect, Creates, Moves, Deletes, Puts, Clears, Inserts, Removes, Shifts, Refers, Forgets, Links, Unlinks, Reorders, after_effect}
 use Rattle.edits.specs.Laws.{EditsStand}
 use Rattle.edits.specs.Standing.{StandsAsAsked}
 use Rattle.edits.proofs.Allowed.{Allowed}
 use Rattle.edits.proofs.Chains.{is_chain}
 use Rattle.edits.proofs.Taken.{allowed}
 
-stands : (meta : Meta) → Sound meta → (m : State) → Good meta m → (effect : Effect) → Allowed meta m effect → StandsAsAsked meta m (after meta m effect) effect
+stands : (meta : Meta) → Sound meta → (m : State) → Good meta m → (effect : Effect) → Allowed meta m effect
+    → StandsAsAsked meta m (after_effect meta m effect) effect
 stands meta sound m good (Creates e class place) may = create_stands meta sound m good e class place may
 stands meta sound m good (Moves e place at) may =
     moved_stands_there meta sound m good e place at may.live may.is (containers_of m place)

@@ -25,10 +25,10 @@ use Rattle.edit_steps.specs.References.{holds_one}
 use Rattle.edit_steps.specs.Refusals.{set_ref_refusal, link_index, link_refusal, unlink_refusal, reorder_refusal}
 use Rattle.edit_steps.specs.Attributes.{taken}
 use Rattle.edits.specs.FreshIds.{id_or_fresh}
-use Rattle.edits.specs.Edits.{Reading, Effect, Creates, Moves, Deletes, Puts, Clears, Inserts, Removes, Shifts, Refers, Forgets, Links, Unlinks}
+use Rattle.edits.specs.Edits.{ValueReading, Effect, Creates, Moves, Deletes, Puts, Clears, Inserts, Removes, Shifts, Refers, Forgets, Links, Unlinks}
 use Rattle.edits.specs.Edits.{Reorders, class_at, feature_at, put_effect, unless_refused, target_in, refer_effect, set_effect, unset_effect}
 use Rattle.edits.specs.Edits.{insert_effect, add_effect, remove_effect, shift_effect, is_listed, link_effect, unlink_effect, reorder_effect}
-use Rattle.edits.specs.Edits.{of_feature, effect_of, made, after}
+use Rattle.edits.specs.Edits.{of_feature, effect_of, effect_steps, after_effect}
 use Rattle.edit_steps.proofs.DeleteLaws.{delete_leads}
 use Rattle.edits.proofs.Allowed.{Allowed, passed, missed, allowed_as}
 use Rattle.edits.proofs.Names.{feature_held}
@@ -72,7 +72,7 @@ module _ (meta : Meta) (m : State) (e : IdBytes) (f : ℕ) (has : class_has meta
       let open_ = not_refused (set_ref_refusal meta m e f b) (Refers e f b) effect live.1 in
       allowed_as meta m (Refers e f b) effect open_.1 (may_set meta m e f b one open_.0)
 
-  set_allowed : (reading : Reading) → IsTyped meta reading → (text : List ℕ) (k : Kind) → kind_of meta f ≡ k
+  set_allowed : (reading : ValueReading) → IsTyped meta reading → (text : List ℕ) (k : Kind) → kind_of meta f ≡ k
       → set_effect reading meta m e f k text ≡ Ok effect → Allowed meta m effect
   set_allowed reading typed text (Attr scalar default) is h =
       put_allowed (reading scalar text) (ap is_attr is) (λ v read. ap (λ k. attr_fits meta k v) is ∙ typed scalar text v read) h
@@ -106,7 +106,7 @@ module _ (meta : Meta) (m : State) (e : IdBytes) (f : ℕ) (has : class_has meta
         few = few.0;
       })
 
-  add_allowed : (reading : Reading) → IsTyped meta reading → (at : Option ℕ) (text : List ℕ) (k : Kind) → kind_of meta f ≡ k
+  add_allowed : (reading : ValueReading) → IsTyped meta reading → (at : Option ℕ) (text : List ℕ) (k : Kind) → kind_of meta f ≡ k
       → add_effect reading meta m e f k at text ≡ Ok effect → Allowed meta m effect
   add_allowed reading typed at text (AttrMany scalar unique) is h =
       let k = unwrap_or at (length (values_at m e f)) in
@@ -149,7 +149,7 @@ module _ (meta : Meta) (m : State) (e : IdBytes) (f : ℕ) (has : class_has meta
       allowed_as meta m (Reorders e f b i) effect open_.1 (may_reorder m e f b i open_.0, reorder_within m e f b i open_.0)
 
 -- the effect of an edit that is not refused is possible
-pub allowed : (meta : Meta) (m : State) → Good meta m → (reading : Reading) → IsTyped meta reading → (ws : ℕ) (edit : Edit) (effect : Effect)
+pub allowed : (meta : Meta) (m : State) → Good meta m → (reading : ValueReading) → IsTyped meta reading → (ws : ℕ) (edit : Edit) (effect : Effect)
     → effect_of reading meta m ws edit ≡ Ok effect → Allowed meta m effect
 unfolding effect_of
 allowed meta m good reading typed ws (Create class destination id) effect h =
@@ -183,7 +183,7 @@ allowed meta m good reading typed ws (Reorder e name target index) effect h =
 
 -- ---- the steps
 pub made_leads : (meta : Meta) → Sound meta → (m : State) → Good meta m → (effect : Effect) → Allowed meta m effect
-    → fold meta m (made meta m effect) ≡ Some (after meta m effect)
+    → fold meta m (effect_steps meta m effect) ≡ Some (after_effect meta m effect)
 made_leads meta sound m good (Creates e class place) may = create_meets meta sound m good e class place may
 made_leads meta sound m good (Moves e place at) may = move_meets meta sound m good e place at may
 made_leads meta sound m good (Deletes e) may = delete_leads meta sound m good e may
@@ -203,4 +203,5 @@ edits_meet meta sound m good reading typed ws edit effect comes = made_leads met
 
 pub edits_keep_good : EditsKeepGood
 edits_keep_good meta sound m good reading typed ws edit effect comes =
-    steps_keep_good meta sound m (after meta m effect) good (made meta m effect) (edits_meet meta sound m good reading typed ws edit effect comes)
+    steps_keep_good meta sound m (after_effect meta m effect) good (effect_steps meta m effect)
+    (edits_meet meta sound m good reading typed ws edit effect comes)

@@ -24,7 +24,8 @@ use Rattle.edit_steps.specs.Attributes.{single_value}
 use Rattle.edit_steps.specs.Rows.{Rows}
 use Rattle.edit_steps.specs.References.{set_ref_after, link_after, unlink_after, unset_after, reorder_after}
 use Rattle.edit_steps.specs.ManyValues.{with_values, dels}
-use Rattle.edits.specs.Edits.{Effect, Creates, Moves, Deletes, Puts, Clears, Inserts, Removes, Shifts, Refers, Forgets, Links, Unlinks, Reorders, made, after}
+use Rattle.edits.specs.Edits.{Effect, Creates, Moves, Deletes, Puts, Clears, Inserts, Removes, Shifts, Refers, Forgets, Links, Unlinks, Reorders}
+use Rattle.edits.specs.Edits.{effect_steps, after_effect}
 use Rattle.edits.specs.Laws.{EditsIdle}
 use Rattle.edit_steps.proofs.Idle.{set_ref_still, link_still, unlink_still, unset_still, reorder_still}
 use Rattle.edit_steps.proofs.ManyEdits.{value_test, values_test, values_now}
@@ -63,7 +64,8 @@ shorter vs k within same = omega (arith, length-remove vs k (lt k (length vs) wi
 same_rows : (m : State) (row : Rows) → ◌≡◌ {A = State} (record m { row = row }) m → row ≡ m.row
 same_rows m row same = ap (λ (x : State). x.row) same
 
-still : (meta : Meta) → Sound meta → (m : State) → Good meta m → (effect : Effect) → Allowed meta m effect → after meta m effect ≡ m → made meta m effect ≡ []
+still : (meta : Meta) → Sound meta → (m : State) → Good meta m → (effect : Effect) → Allowed meta m effect → after_effect meta m effect ≡ m
+    → effect_steps meta m effect ≡ []
 still meta sound m good (Creates e class place) may same =
     absurd (some_none (get m.kind e) class
     (ap (λ (x : State). get x.kind e) (sym same) ∙ get-set_same id_order m.kind e (Some class))
@@ -91,5 +93,7 @@ still meta sound m good (Reorders a f b k) may same = reorder_still meta sound m
 
 pub edits_idle : EditsIdle
 edits_idle meta sound m good reading typed ws edit effect comes =
-    let may = allowed meta m good reading typed ws edit effect comes in
-    (nothing_made meta m (after meta m effect) (made meta m effect) (made_leads meta sound m good effect may), still meta sound m good effect may)
+    let may = allowed meta m good reading typed ws edit effect comes in (
+      nothing_made meta m (after_effect meta m effect) (effect_steps meta m effect) (made_leads meta sound m good effect may),
+      still meta sound m good effect may,
+    )

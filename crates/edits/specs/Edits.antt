@@ -37,7 +37,7 @@ use Rattle.edit_steps.specs.Places.{create_after, create_made}
 use Rattle.edit_steps.specs.Attributes.{taken, put_after, put_made}
 use Rattle.edit_steps.specs.ManyValues.{insert_after, insert_made, remove_after, remove_made, shift_after, shift_made, clear_after, clear_made}
 use Rattle.edit_steps.specs.declared.move_fault.MoveFault.{MoveFault}
-use Rattle.edit_steps.specs.EditFaults.{edit_fault}
+use Rattle.edit_steps.specs.EditFaults.{edit_fault_of_move}
 use Rattle.edit_steps.specs.MoveRefusals.{create_refusal, move_refusal, place_of}
 use Rattle.edit_steps.specs.Moves.{move_after, move_made}
 use Rattle.edit_steps.specs.Deletes.{delete_after, delete_made}
@@ -47,8 +47,8 @@ use Rattle.model_state.specs.Ranks.{most_entries}
 use Rattle.model_state.specs.Listing.{values_at}
 
 -- which value of a type a text is, where it is one
-abbrev pub Reading : Type 0
-Reading = Scalar → List ℕ → Option Value
+abbrev pub ValueReading : Type 0
+ValueReading = Scalar → List ℕ → Option Value
 
 -- the effect of an edit, with its names looked up and its value read
 pub data Effect : Type 0 where
@@ -102,7 +102,7 @@ place_at meta m (Inside parent feature) = place_inside meta parent (feature_at m
 -- the effect where the place takes the element
 abbrev pub unless_full : Option MoveFault → Result Effect EditFault → Result Effect EditFault
 unless_full None effect = effect
-unless_full (Some fault) effect = Err (edit_fault fault)
+unless_full (Some fault) effect = Err (edit_fault_of_move fault)
 
 -- the id is of the form and not live
 abbrev pub new_effect : State → ℕ → Place → IdBytes → Result Effect EditFault
@@ -158,7 +158,7 @@ refer_effect meta m a f (Some b) =
 
 -- The feature is a single attribute, and the text a value of its type. Or it is a plain reference of upper bound 1, and the text
 -- names its target.
-abbrev pub set_effect : Reading → Meta → State → IdBytes → ℕ → Kind → List ℕ → Result Effect EditFault
+abbrev pub set_effect : ValueReading → Meta → State → IdBytes → ℕ → Kind → List ℕ → Result Effect EditFault
 set_effect reading meta m e f (Attr scalar default) text = put_effect meta e f (reading scalar text)
 set_effect reading meta m e f (AttrMany scalar unique) text = Err WrongKind
 set_effect reading meta m e f (Bounded target opposite) text =
@@ -193,7 +193,7 @@ insert_effect e f unique upper vs k None = Err BadValue
 insert_effect e f unique upper vs k (Some v) = accepts unique upper vs v (Inserts e f k v)
 
 -- the feature is a many-valued attribute, the index is one of its values or their end, and the text is a value of its type
-abbrev pub add_effect : Reading → Meta → State → IdBytes → ℕ → Kind → Option ℕ → List ℕ → Result Effect EditFault
+abbrev pub add_effect : ValueReading → Meta → State → IdBytes → ℕ → Kind → Option ℕ → List ℕ → Result Effect EditFault
 add_effect reading meta m e f (Attr scalar default) at text = Err WrongKind
 add_effect reading meta m e f (AttrMany scalar unique) at text =
     let vs = values_at m e f in
@@ -260,7 +260,7 @@ of_feature meta (Err fault) effect = Err fault
 of_feature meta (Ok f) effect = effect f (kind_of meta f)
 
 -- the effect of an edit in a workspace of that number, or the first of its refusals
-unfoldable pub effect_of : Reading → Meta → State → ℕ → Edit → Result Effect EditFault
+unfoldable pub effect_of : ValueReading → Meta → State → ℕ → Edit → Result Effect EditFault
 effect_of reading meta m ws (Create class destination id) = create_effect meta m (class_named meta class) destination (id_or_fresh m ws id)
 effect_of reading meta m ws (Delete id) = delete_effect m id
 effect_of reading meta m ws (Set id feature value) =
@@ -280,37 +280,37 @@ effect_of reading meta m ws (Move id destination index) = move_effect meta m id 
 
 -- ---- the model after an effect, defined without steps
 -- what each effect leaves
-abbrev pub after : Meta → State → Effect → State
-after meta m (Creates e class place) = create_after m e class place
-after meta m (Moves e place at) = move_after m e place at
-after meta m (Deletes e) = delete_after meta m e
-after meta m (Puts e f v) = put_after m e f v
-after meta m (Clears e f) = clear_after m e f
-after meta m (Inserts e f k v) = insert_after m e f k v
-after meta m (Removes e f k) = remove_after m e f k
-after meta m (Shifts e f from to) = shift_after m e f from to
-after meta m (Refers a f b) = record m { row = set_ref_after meta a f b m.row }
-after meta m (Forgets a f) = record m { row = unset_after meta a f m.row }
-after meta m (Links a f b k) = record m { row = link_after meta a f b k m.row }
-after meta m (Unlinks a f b) = record m { row = unlink_after meta a f b m.row }
-after meta m (Reorders a f b k) = record m { row = reorder_after a f b k m.row }
+abbrev pub after_effect : Meta → State → Effect → State
+after_effect meta m (Creates e class place) = create_after m e class place
+after_effect meta m (Moves e place at) = move_after m e place at
+after_effect meta m (Deletes e) = delete_after meta m e
+after_effect meta m (Puts e f v) = put_after m e f v
+after_effect meta m (Clears e f) = clear_after m e f
+after_effect meta m (Inserts e f k v) = insert_after m e f k v
+after_effect meta m (Removes e f k) = remove_after m e f k
+after_effect meta m (Shifts e f from to) = shift_after m e f from to
+after_effect meta m (Refers a f b) = record m { row = set_ref_after meta a f b m.row }
+after_effect meta m (Forgets a f) = record m { row = unset_after meta a f m.row }
+after_effect meta m (Links a f b k) = record m { row = link_after meta a f b k m.row }
+after_effect meta m (Unlinks a f b) = record m { row = unlink_after meta a f b m.row }
+after_effect meta m (Reorders a f b k) = record m { row = reorder_after a f b k m.row }
 
 -- ---- the steps of an effect, and what is recorded
 -- the steps of each effect
-abbrev pub made : Meta → State → Effect → List Step
-made meta m (Creates e class place) = create_made m e class place
-made meta m (Moves e place at) = move_made m e place at (containers_of m (place_of m e)) (containers_of m place)
-made meta m (Deletes e) = delete_made meta m e
-made meta m (Puts e f v) = put_made m e f v
-made meta m (Clears e f) = clear_made m e f
-made meta m (Inserts e f k v) = insert_made e f k v
-made meta m (Removes e f k) = remove_made m e f k
-made meta m (Shifts e f from to) = shift_made m e f from to
-made meta m (Refers a f b) = set_ref_made meta m.row a f b
-made meta m (Forgets a f) = unset_made meta m.row a f
-made meta m (Links a f b k) = link_made meta m.row a f b k
-made meta m (Unlinks a f b) = unlink_made meta m.row a f b
-made meta m (Reorders a f b k) = reorder_made m.row a f b k
+abbrev pub effect_steps : Meta → State → Effect → List Step
+effect_steps meta m (Creates e class place) = create_made m e class place
+effect_steps meta m (Moves e place at) = move_made m e place at (containers_of m (place_of m e)) (containers_of m place)
+effect_steps meta m (Deletes e) = delete_made meta m e
+effect_steps meta m (Puts e f v) = put_made m e f v
+effect_steps meta m (Clears e f) = clear_made m e f
+effect_steps meta m (Inserts e f k v) = insert_made e f k v
+effect_steps meta m (Removes e f k) = remove_made m e f k
+effect_steps meta m (Shifts e f from to) = shift_made m e f from to
+effect_steps meta m (Refers a f b) = set_ref_made meta m.row a f b
+effect_steps meta m (Forgets a f) = unset_made meta m.row a f
+effect_steps meta m (Links a f b k) = link_made meta m.row a f b k
+effect_steps meta m (Unlinks a f b) = unlink_made meta m.row a f b
+effect_steps meta m (Reorders a f b k) = reorder_made m.row a f b k
 
 -- the kind of its operation
 abbrev pub operation_kind : Effect → OpKind
@@ -340,7 +340,7 @@ operation_of kind (s ∷ ss) = Some (Simple kind (s ∷ ss))
 
 -- an operation of the steps, and the id
 abbrev pub recording : Meta → State → Effect → Recorded
-recording meta m effect = record { operation = operation_of (operation_kind effect) (made meta m effect); id = new_id effect }
+recording meta m effect = record { operation = operation_of (operation_kind effect) (effect_steps meta m effect); id = new_id effect }
 
 -- what is recorded of an effect, or the refusal
 abbrev pub recording_of : Meta → State → Result Effect EditFault → Result Recorded EditFault
@@ -348,5 +348,5 @@ recording_of meta m (Err fault) = Err fault
 recording_of meta m (Ok effect) = Ok (recording meta m effect)
 
 -- what is recorded of an edit in a workspace of that number, or the first of its refusals
-unfoldable pub recorded_of : Reading → Meta → State → ℕ → Edit → Result Recorded EditFault
+unfoldable pub recorded_of : ValueReading → Meta → State → ℕ → Edit → Result Recorded EditFault
 recorded_of reading meta m ws edit = recording_of meta m (effect_of reading meta m ws edit)

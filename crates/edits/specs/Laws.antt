@@ -12,36 +12,36 @@ use Rattle.model_state.specs.Good.{Good, Sound}
 use Rattle.edits.specs.declared.edit.Edit.{Edit}
 use Rattle.edits.specs.FreshIds.{HasFirst, IsFirst, numbered, fresh_id}
 use Rattle.edits.specs.Standing.{StandsAsAsked}
-use Rattle.edits.specs.Edits.{Reading, Effect, effect_of, made, after}
+use Rattle.edits.specs.Edits.{ValueReading, Effect, effect_of, effect_steps, after_effect}
 
 -- which text is which value: each is of its type
-abbrev pub IsTyped : Meta → Reading → Type 0
+abbrev pub IsTyped : Meta → ValueReading → Type 0
 IsTyped meta reading = (scalar : Scalar) (text : List ℕ) (v : Value) → reading scalar text ≡ Some v → fits meta scalar v ≡ true
 
 -- an edit that is not refused leads to the model after it
 abbrev pub EditsMeet : Type 0
-EditsMeet = (meta : Meta) → Sound meta → (m : State) → Good meta m → (reading : Reading) → IsTyped meta reading
+EditsMeet = (meta : Meta) → Sound meta → (m : State) → Good meta m → (reading : ValueReading) → IsTyped meta reading
     → (ws : ℕ) (edit : Edit) (effect : Effect) → effect_of reading meta m ws edit ≡ Ok effect
-    → fold meta m (made meta m effect) ≡ Some (after meta m effect)
+    → fold meta m (effect_steps meta m effect) ≡ Some (after_effect meta m effect)
 
 -- no step is made for it exactly where it changes nothing
 abbrev pub EditsIdle : Type 0
-EditsIdle = (meta : Meta) → Sound meta → (m : State) → Good meta m → (reading : Reading) → IsTyped meta reading
+EditsIdle = (meta : Meta) → Sound meta → (m : State) → Good meta m → (reading : ValueReading) → IsTyped meta reading
     → (ws : ℕ) (edit : Edit) (effect : Effect) → effect_of reading meta m ws edit ≡ Ok effect
-    → (made meta m effect ≡ [] → after meta m effect ≡ m) × (after meta m effect ≡ m → made meta m effect ≡ [])
+    → (effect_steps meta m effect ≡ [] → after_effect meta m effect ≡ m) × (after_effect meta m effect ≡ m → effect_steps meta m effect ≡ [])
 
 -- The model after it is good. Among other things, each row of a reference and its mirror stand together, and no list is over its
 -- bound.
 abbrev pub EditsKeepGood : Type 0
-EditsKeepGood = (meta : Meta) → Sound meta → (m : State) → Good meta m → (reading : Reading) → IsTyped meta reading
+EditsKeepGood = (meta : Meta) → Sound meta → (m : State) → Good meta m → (reading : ValueReading) → IsTyped meta reading
     → (ws : ℕ) (edit : Edit) (effect : Effect) → effect_of reading meta m ws edit ≡ Ok effect
-    → Good meta (after meta m effect)
+    → Good meta (after_effect meta m effect)
 
 -- an entry stands in it where the edit asked for it
 abbrev pub EditsStand : Type 0
-EditsStand = (meta : Meta) → Sound meta → (m : State) → Good meta m → (reading : Reading) → IsTyped meta reading
+EditsStand = (meta : Meta) → Sound meta → (m : State) → Good meta m → (reading : ValueReading) → IsTyped meta reading
     → (ws : ℕ) (edit : Edit) (effect : Effect) → effect_of reading meta m ws edit ≡ Ok effect
-    → StandsAsAsked meta m (after meta m effect) effect
+    → StandsAsAsked meta m (after_effect meta m effect) effect
 
 -- the first number whose id is not live gives the fresh id
 abbrev pub FirstIsFresh : Type 0

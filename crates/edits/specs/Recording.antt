@@ -2,7 +2,7 @@
 use Rattle.std.specs.Prelude.{ℕ, Result}
 use Rattle.ecore_meta.specs.Meta.{Meta}
 use Rattle.model_state.specs.State.{State}
-use Rattle.emfjson_io.specs.Values.{value_of}
+use Rattle.emfjson_values.specs.Values.{value_of}
 use Rattle.edits.specs.declared.edit.Edit.{Edit}
 use Rattle.edits.specs.declared.edit.Recorded.{Recorded}
 use Rattle.edit_steps.specs.declared.fault.EditFault.{EditFault}

@@ -7,10 +7,10 @@ use Rattle.model_state.specs.State.{State}
 use Rattle.model_state.specs.Steps.{fold}
 use Rattle.model_state.specs.Good.{Good, Sound}
 use Rattle.model_state.specs.Typing.{opposite_of}
-use Rattle.emfjson_io.specs.Values.{value_of}
+use Rattle.emfjson_values.specs.Values.{value_of}
 use Rattle.edits.specs.declared.edit.Edit.{Edit}
 use Rattle.edits.specs.declared.edit.Recorded.{Recorded}
-use Rattle.edits.specs.Edits.{Effect, effect_of, after}
+use Rattle.edits.specs.Edits.{Effect, effect_of, after_effect}
 use Rattle.edits.specs.Recording.{recorded}
 use Rattle.edits.specs.Answers.{steps_in}
 
@@ -19,9 +19,9 @@ use Rattle.edits.specs.Answers.{steps_in}
 pub record LeadsOn (meta : Meta) (m : State) (ws : ℕ) (edit : Edit) (r : Recorded) : Type 0 where
   pub effect : Effect
   pub is : effect_of (value_of meta) meta m ws edit ≡ Ok effect
-  pub run : fold meta m (steps_in r.operation) ≡ Some (after meta m effect)
-  pub idle : (r.operation ≡ None) ↔ (after meta m effect ≡ m)
-  pub good : Good meta (after meta m effect)
+  pub run : fold meta m (steps_in r.operation) ≡ Some (after_effect meta m effect)
+  pub idle : (r.operation ≡ None) ↔ (after_effect meta m effect ≡ m)
+  pub good : Good meta (after_effect meta m effect)
 
 -- so does what is recorded of an edit that is not refused
 abbrev pub RecordingLeads : Type 0

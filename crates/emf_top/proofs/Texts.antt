@@ -4,8 +4,8 @@ use Rattle.std.specs.Prelude.{codes}
 use Rattle.std.specs.Fmt.{decimal}
 use Rattle.plain_repository.specs.State.{State}
 use Rattle.repo_state.specs.Counting.{live_workspaces}
-use Rattle.repo_core.specs.Counting.{AreCounts, element_count}
-use Rattle.repo_core.specs.declared.counting.Counts.{Counts}
+use Rattle.repo_answers.specs.Counting.{AreCounts, element_count}
+use Rattle.repo_answers.specs.declared.counting.Counts.{Counts}
 use Rattle.emf_top.specs.Tasks.{check_line, outcome_line}
 
 -- a word and a number five times, one pair after the other

@@ -8,7 +8,7 @@ use Rattle.plain_repository.specs.State.{State}
 use Rattle.plain_repository.specs.Events.{play}
 use Rattle.plain_repository.specs.Repository.{decide}
 use Rattle.repo_state.specs.Counting.{live_workspaces}
-use Rattle.repo_core.specs.Counting.{element_count}
+use Rattle.repo_answers.specs.Counting.{element_count}
 use Rattle.script_items.specs.Items.{script}
 use Rattle.script_items.specs.Generator.{generated}
 use Rattle.script_items.specs.declared.words.Request.{Request}

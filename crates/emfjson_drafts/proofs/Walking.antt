@@ -12,7 +12,7 @@ use Rattle.model_state.specs.Keys.{IdBytes}
 use Rattle.model_state.specs.Typing.{upper_of}
 use Rattle.model_documents.specs.declared.doc.DocAttr.{DocAttr}
 use Rattle.model_documents.specs.declared.doc.DocParent.{DocParent}
-use Rattle.model_documents.specs.declared.draft.Draft.{Draft}
+use Rattle.model_documents.specs.declared.draft.ElementDraft.{ElementDraft}
 use Rattle.model_documents.specs.declared.draft.Links.{Links}
 use Rattle.model_documents.specs.declared.fault.ModelFault.{ModelFault}
 use Rattle.model_documents.specs.declared.fault.ModelFault.TheVariants.{Bound, WrongType}
@@ -26,7 +26,8 @@ use Rattle.model_documents.specs.Walk.{element_rows, items_rows, members_rows, h
 use Rattle.model_documents.proofs.IdLists.{ids_append}
 use Rattle.emfjson_drafts.proofs.Reading.{fault_then, fault_is}
 
-pub holds_is : {T : Type 0} (attrs attrs' : List DocAttr) (links links' : List Links) (rows rows' : List Draft) (result : Result T ModelFault) (r s : Read Part)
+pub holds_is : {T : Type 0} (attrs attrs' : List DocAttr) (links links' : List Links) (rows rows' : List ElementDraft) (result : Result T ModelFault)
+    (r s : Read Part)
     → AppendsPart attrs attrs' links links' rows rows' result r → r ≡ s → AppendsPart attrs attrs' links links' rows rows' result s
 holds_is attrs attrs' links links' rows rows' result r s h p = subst (AppendsPart attrs attrs' links links' rows rows' result) p h
 
@@ -34,24 +35,24 @@ fault_here : {A : Type 0} (default : Option ℕ) (r : Read A) → r ≡ Err (not
 fault_here None r h = h
 fault_here (Some c) r h = h
 
-pub walks_is : {T : Type 0} (old new : List Draft) (result : Result T ModelFault) (r s : Read (List Draft)) → Walks old new result r → r ≡ s
+pub walks_is : {T : Type 0} (old new : List ElementDraft) (result : Result T ModelFault) (r s : Read (List ElementDraft)) → Walks old new result r → r ≡ s
     → Walks old new result s
 walks_is old new result r s h p = subst (Walks old new result) p h
 
 -- ---- one element
 module _ (meta : Meta) (ids : Ids) (parent : Option DocParent) (default : Option ℕ) where
   -- the rows of an element of a class by its id, and those of the keys of an object by its class
-  abbrev by_id : ℕ → Members → Option IdBytes → Read (List Draft)
+  abbrev by_id : ℕ → Members → Option IdBytes → Read (List ElementDraft)
   by_id c ms id = own_rows parent id c (members_rows meta c (length ids) (ids ++ id ∷ []) no_part ms)
 
-  abbrev by_class : Members → ℕ → Read (List Draft)
+  abbrev by_class : Members → ℕ → Read (List ElementDraft)
   by_class ms c = «then» (id_of ids (get (codes "_id") (object ms))) (by_id c ms)
 
   pub class_fault : (d : Data) (ms : Members) (o : Option Data) (e : ModelFault) → d ≡ object ms → o ≡ get (codes "eClass") d
       → IsFault e (class_of meta default o) → IsFault e (element_rows meta ids parent default d)
   unfolding element_rows
   class_fault d ms o e is at h =
-      let f : ℕ → Read (List Draft) = by_class ms in
+      let f : ℕ → Read (List ElementDraft) = by_class ms in
       fault_is e _ _ (fault_then e (class_of meta default o) f h)
       (ap (λ o. «then» (class_of meta default o) f) (at ∙ ap (get (codes "eClass")) is) ∙ sym (ap (element_rows meta ids parent default) is))
 
@@ -60,8 +61,8 @@ module _ (meta : Meta) (ids : Ids) (parent : Option DocParent) (default : Option
       → IsFault e (element_rows meta ids parent default d)
   unfolding element_rows
   id_fault d ms o q c e is at class at' h =
-      let g : Option IdBytes → Read (List Draft) = by_id c ms in
-      let f : ℕ → Read (List Draft) = by_class ms in
+      let g : Option IdBytes → Read (List ElementDraft) = by_id c ms in
+      let f : ℕ → Read (List ElementDraft) = by_class ms in
       let known : class_of meta default (get (codes "eClass") (object ms)) ≡ Ok c =
       ap (class_of meta default) (sym (at ∙ ap (get (codes "eClass")) is)) ∙ class in
       fault_is e _ _ (fault_then e (id_of ids q) g h)
@@ -72,8 +73,8 @@ module _ (meta : Meta) (ids : Ids) (parent : Option DocParent) (default : Option
       → own_rows parent id c (members_rows meta c (length ids) (ids ++ id ∷ []) no_part ms) ≡ element_rows meta ids parent default d
   unfolding element_rows
   object_is d ms o q c id is at class at' read =
-      let g : Option IdBytes → Read (List Draft) = by_id c ms in
-      let f : ℕ → Read (List Draft) = by_class ms in
+      let g : Option IdBytes → Read (List ElementDraft) = by_id c ms in
+      let f : ℕ → Read (List ElementDraft) = by_class ms in
       let known : class_of meta default (get (codes "eClass") (object ms)) ≡ Ok c =
       ap (class_of meta default) (sym (at ∙ ap (get (codes "eClass")) is)) ∙ class in
       let named : id_of ids (get (codes "_id") (object ms)) ≡ Ok id = ap (id_of ids) (sym (at' ∙ ap (get (codes "_id")) is)) ∙ read in
@@ -109,7 +110,7 @@ module _ (meta : Meta) (ids : Ids) (parent : DocParent) (target : ℕ) where
   held_null d is = ap (held_rows meta ids parent target) is
 
   -- an array where one element is due, past the bound, or within it
-  abbrev by_tests : Bool → Bool → Items → Read (List Draft)
+  abbrev by_tests : Bool → Bool → Items → Read (List ElementDraft)
   by_tests one within ds = unless (not one) WrongType (unless within Bound (items_rows meta ids (Some parent) (Some target) [] ds))
 
   pub held_array : (d : Data) (ds : Items) (one within : Bool) → d ≡ array ds → is_one (upper_of meta parent.feature) ≡ one
@@ -147,16 +148,16 @@ count_items [] = refl
 count_items (v ∷ vs) = ap (λ n. suc n) (count_items vs)
 
 -- ---- lists of elements
-module _ (meta : Meta) (first : List Draft) (parent : Option DocParent) (default : Option ℕ) where
-  abbrev pub SoFar : List Draft → Items → Items → Type 0
-  SoFar now all rest = (done : List Draft) × (now ≡ first ++ done)
+module _ (meta : Meta) (first : List ElementDraft) (parent : Option DocParent) (default : Option ℕ) where
+  abbrev pub SoFar : List ElementDraft → Items → Items → Type 0
+  SoFar now all rest = (done : List ElementDraft) × (now ≡ first ++ done)
       × (items_rows meta (ids_of first) parent default [] all ≡ items_rows meta (ids_of first) parent default done rest)
 
-  here : (now done : List Draft) (d : Data) → now ≡ first ++ done
+  here : (now done : List ElementDraft) (d : Data) → now ≡ first ++ done
       → element_rows meta (ids_of now) parent default d ≡ element_rows meta (ids_of first ++ ids_of done) parent default d
   here now done d is = ap (λ ids. element_rows meta ids parent default d) (ap ids_of is ∙ ids_append first done)
 
-  pub items_step : {T : Type 0} (now after : List Draft) (x : T) (all : Items) (d : Data) (ds : Items) → SoFar now all (item d ds)
+  pub items_step : {T : Type 0} (now after : List ElementDraft) (x : T) (all : Items) (d : Data) (ds : Items) → SoFar now all (item d ds)
       → Walks {T = T} now after (Ok x) (element_rows meta (ids_of now) parent default d) → SoFar after all ds
   unfolding items_rows
   items_step now after x all d ds so walks = (
@@ -165,25 +166,25 @@ module _ (meta : Meta) (first : List Draft) (parent : Option DocParent) (default
     so.2 ∙ ap (λ r. «then» r (λ more. items_rows meta (ids_of first) parent default (so.0 ++ more) ds)) (sym (here now so.0 d so.1) ∙ walks.1),
   )
 
-  pub items_fault : (now : List Draft) (e : ModelFault) (all : Items) (d : Data) (ds : Items) → SoFar now all (item d ds)
+  pub items_fault : (now : List ElementDraft) (e : ModelFault) (all : Items) (d : Data) (ds : Items) → SoFar now all (item d ds)
       → IsFault e (element_rows meta (ids_of now) parent default d) → IsFault e (items_rows meta (ids_of first) parent default [] all)
   unfolding items_rows
   items_fault now e all d ds so h =
       fault_is e _ _ (fault_then e _ (λ more. items_rows meta (ids_of first) parent default (so.0 ++ more) ds)
       (fault_is e _ _ h (here now so.0 d so.1))) (sym so.2)
 
-  pub items_end : (now : List Draft) (all : Items) → SoFar now all no_items
-      → (more : List Draft) × (items_rows meta (ids_of first) parent default [] all ≡ Ok more) × (now ≡ first ++ more)
+  pub items_end : (now : List ElementDraft) (all : Items) → SoFar now all no_items
+      → (more : List ElementDraft) × (items_rows meta (ids_of first) parent default [] all ≡ Ok more) × (now ≡ first ++ more)
   unfolding items_rows
   items_end now all so = (so.0, so.2, so.1)
 
 -- the rows that a feature of an element holds in a value
-abbrev pub rows_held : Meta → Ids → ℕ → Data → ℕ → ℕ → Read (List Draft)
+abbrev pub rows_held : Meta → Ids → ℕ → Data → ℕ → ℕ → Read (List ElementDraft)
 rows_held meta ids own d f target = held_rows meta ids (record { row = own; feature = f }) target d
 
 -- ---- the keys of an object
-module _ (meta : Meta) (c own : ℕ) (first : List Draft) where
-  abbrev pub PartSoFar : List Draft → List DocAttr → List Links → Members → Members → Type 0
+module _ (meta : Meta) (c own : ℕ) (first : List ElementDraft) where
+  abbrev pub PartSoFar : List ElementDraft → List DocAttr → List Links → Members → Members → Type 0
   PartSoFar now attrs links all rest =
       (done : Part) × (now ≡ first ++ done.rows) × (attrs ≡ done.attrs) × (links ≡ done.links)
       × (members_rows meta c own (ids_of first) no_part all ≡ members_rows meta c own (ids_of first) done rest)
@@ -191,7 +192,7 @@ module _ (meta : Meta) (c own : ℕ) (first : List Draft) where
   abbrev at_key : Ids → Name → Data → Read Part
   at_key ids k d = key_part meta (key_named meta c k) d (rows_held meta ids own d)
 
-  pub members_step : {T : Type 0} (now after : List Draft) (attrs attrs' : List DocAttr) (links links' : List Links) (x : T) (all : Members)
+  pub members_step : {T : Type 0} (now after : List ElementDraft) (attrs attrs' : List DocAttr) (links links' : List Links) (x : T) (all : Members)
       (k : Name) (d : Data) (ms : Members) → PartSoFar now attrs links all (member k d ms)
       → AppendsPart {T = T} attrs attrs' links links' now after (Ok x)
       (key_part meta (key_named meta c k) d (rows_held meta (ids_of now) own d))
@@ -206,7 +207,7 @@ module _ (meta : Meta) (c own : ℕ) (first : List Draft) where
         so.4 ∙ ap (λ r. «then» r (λ more. members_rows meta c own (ids_of first) (joined so.0 more) ms)) (sym (ap (λ ids. at_key ids k d) ids) ∙ holds.1),
       )
 
-  pub members_fault : (now : List Draft) (attrs : List DocAttr) (links : List Links) (e : ModelFault) (all : Members) (k : Name) (d : Data)
+  pub members_fault : (now : List ElementDraft) (attrs : List DocAttr) (links : List Links) (e : ModelFault) (all : Members) (k : Name) (d : Data)
       (ms : Members) → PartSoFar now attrs links all (member k d ms)
       → IsFault e (key_part meta (key_named meta c k) d (rows_held meta (ids_of now) own d))
       → IsFault e (members_rows meta c own (ids_of first) no_part all)
@@ -216,7 +217,7 @@ module _ (meta : Meta) (c own : ℕ) (first : List Draft) where
       fault_is e _ _ (fault_then e _ (λ more. members_rows meta c own (ids_of first) (joined so.0 more) ms)
       (fault_is e _ _ h (ap (λ ids. at_key ids k d) ids))) (sym so.4)
 
-  pub members_end : (now : List Draft) (attrs : List DocAttr) (links : List Links) (all : Members) → PartSoFar now attrs links all no_members
+  pub members_end : (now : List ElementDraft) (attrs : List DocAttr) (links : List Links) (all : Members) → PartSoFar now attrs links all no_members
       → (more : Part) × (members_rows meta c own (ids_of first) no_part all ≡ Ok more) × (attrs ≡ more.attrs) × (links ≡ more.links)
       × (now ≡ first ++ more.rows)
   unfolding members_rows

@@ -4,7 +4,7 @@ ghost use Rattle.std.specs.Prelude.{◌≡◌, ◌∷◌, IfOk, [], map};
 ghost use Rattle.std.specs.List.{list_any};
 ghost use Rattle.serde_json.specs.View.{view};
 ghost use Rattle.model_state.specs.Typing.{value_eq};
-ghost use Rattle.emfjson_io.specs.Values.{value_in};
+ghost use Rattle.emfjson_values.specs.Values.{value_in};
 ghost use Rattle.model_documents.specs.declared.fault.ModelFault.TheVariants.{BadValue};
 ghost use Rattle.emfjson_drafts.specs.Answers.{Gives, AppendsPart};
 ghost use Rattle.finite_maps.specs.Maps.{is_within};
@@ -13,7 +13,7 @@ ghost use Rattle.model_documents.specs.Reads.{found};
 
 use crate::held::Held;
 use ecore_meta::{Metamodel, Scalar, Value};
-use emfjson_io::value_in;
+use emfjson_values::value_in;
 use model_documents::{DocAttr, ModelFault};
 use model_state::{MOST_ENTRIES, is_default, is_same_value, upper_of};
 use serde_json::Value as Json;

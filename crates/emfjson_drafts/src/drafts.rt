@@ -2,12 +2,12 @@
 ghost use Rattle.std.specs.Prelude.{◌≡◌, ◌∷◌, [], ◌++◌, ◌<◌, List, OnOk, Some, length};
 ghost use Rattle.std.specs.List.{list_any};
 ghost use Rattle.finite_maps.specs.Equal.{option_eq, text_eq};
-ghost use Rattle.model_documents.specs.declared.draft.Draft.{Draft};
+ghost use Rattle.model_documents.specs.declared.draft.ElementDraft.{ElementDraft};
 ghost use Rattle.model_documents.specs.Parts.{ids_of};
 
 use crate::finder::add_name;
 use crate::held::Held;
-use model_documents::Draft;
+use model_documents::ElementDraft;
 use std::alloc::{AllocError, Global};
 use std::collections::BTreeMap;
 use std::marker::Model;
@@ -15,16 +15,16 @@ use std::marker::Model;
 /// The elements that a walk has found so far, which are soon found by their ids.
 #[derive(Drop)]
 pub(crate) struct Drafts {
-    rows: Vec<Draft>,
+    rows: Vec<ElementDraft>,
     names: BTreeMap<String, usize>,
 }
 
 impl Model for Drafts {
     ghost use Rattle.std.specs.Prelude.{List};
-    ghost use Rattle.model_documents.specs.declared.draft.Draft.{Draft};
+    ghost use Rattle.model_documents.specs.declared.draft.ElementDraft.{ElementDraft};
     ghost use Rattle.model_documents.specs.Finder.{NamesOf};
 
-    ghost Value = { List Draft };
+    ghost Value = { List ElementDraft };
 
     ghost view = { λ a. a.rows.items };
 
@@ -57,7 +57,7 @@ impl Drafts {
     }
 
     /// One more element, after the others.
-    pub fn push(&mut self, alloc: Global, row: Draft) -> Result<(), AllocError>
+    pub fn push(&mut self, alloc: Global, row: ElementDraft) -> Result<(), AllocError>
         ensures { OnOk result (self.new ≡ self.old ++ row ∷ []) }
     {
         let own = self.len();
@@ -74,7 +74,7 @@ impl Drafts {
     /// Gives an element what the keys of its object hold.
     pub fn fill(&mut self, own: usize, held: Held)
         requires { own < length self.old }
-        ensures { (before : List Draft) (row : Draft) (after : List Draft) → self.old ≡ before ++ row ∷ after → length before ≡ own → self.new ≡ before ++ record row { attrs = held.attrs; links = held.links } ∷ after }
+        ensures { (before : List ElementDraft) (row : ElementDraft) (after : List ElementDraft) → self.old ≡ before ++ row ∷ after → length before ≡ own → self.new ≡ before ++ record row { attrs = held.attrs; links = held.links } ∷ after }
     {
         let row = &mut self.rows[own];
         row.attrs = held.attrs;
@@ -82,7 +82,7 @@ impl Drafts {
     }
 
     /// The elements, in the order in which they were found.
-    pub fn into_rows(self) -> Vec<Draft>
+    pub fn into_rows(self) -> Vec<ElementDraft>
         ensures { result.items ≡ self }
     {
         self.rows

@@ -7,7 +7,7 @@ ghost use Rattle.model_documents.specs.declared.doc.DocParent.{DocParent};
 ghost use Rattle.model_documents.specs.Finder.{ChildrenOf, NamesOf, first_of, numbers_at};
 ghost use Rattle.model_documents.specs.Places.{child_at, class_at, named, numbers_where, parent_eq, stands_in};
 
-use model_documents::{DocParent, Draft};
+use model_documents::{DocParent, ElementDraft};
 use model_state::Id;
 use std::alloc::{AllocError, Global};
 use std::collections::BTreeMap;
@@ -17,7 +17,7 @@ use texts::List;
 /// The elements of a document, which are soon found by an id and by a place.
 #[derive(Drop)]
 pub struct Finder<'a> {
-    rows: &'a [Draft],
+    rows: &'a [ElementDraft],
     names: BTreeMap<String, usize>,
     children: BTreeMap<(usize, u32), List<usize>>,
     roots: List<usize>,
@@ -25,10 +25,10 @@ pub struct Finder<'a> {
 
 impl<'a> Model for Finder<'a> {
     ghost use Rattle.std.specs.Prelude.{List};
-    ghost use Rattle.model_documents.specs.declared.draft.Draft.{Draft};
+    ghost use Rattle.model_documents.specs.declared.draft.ElementDraft.{ElementDraft};
     ghost use Rattle.model_documents.specs.Finder.{Finds};
 
-    ghost Value = { List Draft };
+    ghost Value = { List ElementDraft };
 
     ghost view = { λ a. a.rows.now };
 
@@ -37,7 +37,7 @@ impl<'a> Model for Finder<'a> {
 
 impl<'a> Finder<'a> {
     /// Makes the maps that the elements are found by, from all of them. The error is out of memory.
-    pub fn new(alloc: Global, rows: &'a [Draft]) -> Result<Finder<'a>, AllocError>
+    pub fn new(alloc: Global, rows: &'a [ElementDraft]) -> Result<Finder<'a>, AllocError>
         ensures { IfOk result (λ finder. finder ≡ rows.now) }
     {
         let names = names_of(alloc, rows)?;
@@ -119,7 +119,7 @@ pub(crate) fn add_name(
 }
 
 /// The number of the first row of each id.
-fn names_of(alloc: Global, rows: &[Draft]) -> Result<BTreeMap<String, usize>, AllocError>
+fn names_of(alloc: Global, rows: &[ElementDraft]) -> Result<BTreeMap<String, usize>, AllocError>
     ensures { IfOk result (NamesOf rows.now) }
 {
     let mut names = BTreeMap::new(alloc);
@@ -167,7 +167,7 @@ fn add_child(
 /// The numbers of the rows in each place but the root.
 fn children_of(
     alloc: Global,
-    rows: &[Draft],
+    rows: &[ElementDraft],
 ) -> Result<BTreeMap<(usize, u32), List<usize>>, AllocError>
     ensures { IfOk result (ChildrenOf rows.now) }
 {
@@ -192,7 +192,7 @@ fn add_root(roots: &mut List<usize>, n: usize, parent: Option<DocParent>) -> Res
 }
 
 /// The numbers of the rows at the root.
-fn roots_of(alloc: Global, rows: &[Draft]) -> Result<List<usize>, AllocError>
+fn roots_of(alloc: Global, rows: &[ElementDraft]) -> Result<List<usize>, AllocError>
     ensures { IfOk result (λ roots. roots ≡ numbers_where (stands_in None) 0 rows.now) }
 {
     let mut roots = List::new(alloc);

@@ -4,7 +4,7 @@ ghost use Rattle.serde_json.specs.View.{view, items_view, members_view};
 ghost use Rattle.emfjson_drafts.specs.Answers.{GivesDrafts, GivesPart, AppendsPart, Walks};
 ghost use Rattle.model_documents.specs.Parts.{ids_of, no_part};
 ghost use Rattle.model_documents.specs.Walk.{element_rows, feature_part, held_rows, items_rows, key_named, key_part, members_rows, not_object, own_rows, walked};
-ghost use Rattle.model_documents.specs.declared.draft.Draft.{Draft};
+ghost use Rattle.model_documents.specs.declared.draft.ElementDraft.{ElementDraft};
 
 use crate::attributes::{is_within, many_part, single_part};
 use crate::classes::{class_of, key_named};
@@ -13,7 +13,7 @@ use crate::held::Held;
 use crate::identity::id_of;
 use crate::links::links_part;
 use ecore_meta::{Kind, Metamodel};
-use model_documents::{DocParent, Draft, Key, ModelFault};
+use model_documents::{DocParent, ElementDraft, Key, ModelFault};
 use model_state::{Id, is_one, upper_of};
 use serde_json::{Map, Value};
 use std::alloc::Global;
@@ -71,7 +71,7 @@ fn object(
     ensures { Walks rows.old rows.new result (own_rows parent id class (members_rows meta.now class (length (ids_of rows.old)) (ids_of rows.old ++ id ∷ []) no_part (members_view members.now.entries))) }
 {
     let own = rows.len();
-    let row = Draft {
+    let row = ElementDraft {
         id,
         class,
         parent,
@@ -252,7 +252,7 @@ fn walk_roots(
 /// # Errors
 ///
 /// The first fault of the walk, so none of a reference; `Memory`.
-pub fn walk(alloc: Global, meta: &Metamodel, value: &Value) -> Result<Vec<Draft>, ModelFault>
+pub fn walk(alloc: Global, meta: &Metamodel, value: &Value) -> Result<Vec<ElementDraft>, ModelFault>
     ensures { GivesDrafts result (walked meta.now (view value.now)) }
 {
     let mut rows = Drafts::new(alloc);

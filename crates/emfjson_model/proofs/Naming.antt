@@ -15,7 +15,7 @@ use Rattle.finite_maps.proofs.EqualLaws.{and_both, and_first, and_second, nat_eq
 use Rattle.model_documents.specs.declared.doc.DocParent.{DocParent}
 use Rattle.model_documents.specs.declared.doc.DocRefs.{DocRefs}
 use Rattle.model_documents.specs.Finder.{numbers_at, place_cmp}
-use Rattle.model_documents.specs.Merged.{naming, targets_at}
+use Rattle.model_documents.specs.Completed.{naming, targets_at}
 use Rattle.model_documents.specs.Places.{parent_eq}
 use Rattle.emfjson_model.specs.Sources.{also, ends_with, push_once}
 use Rattle.model_documents.proofs.Finding.{parent_exact}

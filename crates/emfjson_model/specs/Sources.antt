@@ -5,7 +5,7 @@ use Rattle.std.specs.BTreeMap.{BTreeMap}
 use Rattle.model_documents.specs.declared.doc.DocParent.{DocParent}
 use Rattle.model_documents.specs.declared.doc.DocRefs.{DocRefs}
 use Rattle.model_documents.specs.Finder.{numbers_at}
-use Rattle.model_documents.specs.Merged.{naming}
+use Rattle.model_documents.specs.Completed.{naming}
 
 -- the number is the last
 abbrev pub ends_with : ℕ → List ℕ → Bool

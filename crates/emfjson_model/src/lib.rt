@@ -1,7 +1,7 @@
 //! Models in emfjson: a text is read as the elements that it describes, or refused with its first fault.
 #![tactic(auto)]
 
-mod merged;
+mod completed;
 mod paths;
 mod read;
 mod references;

@@ -3,17 +3,21 @@ ghost use Rattle.emfjson_drafts.specs.Answers.{Gives};
 ghost use Rattle.emfjson_model.specs.Answers.{GivesDoc};
 ghost use Rattle.model_documents.specs.Document.{doc_of, resolved};
 
-use crate::merged::rows_by;
+use crate::completed::rows_by;
 use crate::references::given_by;
 use ecore_meta::Metamodel;
 use emfjson_drafts::walk;
-use model_documents::{Doc, DocRow, Draft, ModelFault};
+use model_documents::{Doc, DocRow, ElementDraft, ModelFault};
 use serde_json::Value;
 use std::alloc::Global;
 use texts::List;
 
 /// The references of the elements are looked up, and then merged.
-fn resolved(alloc: Global, meta: &Metamodel, drafts: &[Draft]) -> Result<List<DocRow>, ModelFault>
+fn resolved(
+    alloc: Global,
+    meta: &Metamodel,
+    drafts: &[ElementDraft],
+) -> Result<List<DocRow>, ModelFault>
     ensures { Gives result (resolved meta.now drafts.now) }
 {
     let given = given_by(alloc, meta, drafts)?;

@@ -10,7 +10,7 @@ use crate::paths::located;
 use crate::targets::Targets;
 use ecore_meta::{Kind, Metamodel};
 use emfjson_drafts::Finder;
-use model_documents::{DocRefs, Draft, Links, ModelFault};
+use model_documents::{DocRefs, ElementDraft, Links, ModelFault};
 use model_state::is_plain;
 use std::alloc::{AllocError, Global};
 use texts::{List, Text};
@@ -163,7 +163,7 @@ fn refs_of(
     alloc: Global,
     meta: &Metamodel,
     rows: &Finder,
-    row: &Draft,
+    row: &ElementDraft,
 ) -> Result<List<DocRefs>, ModelFault>
     ensures { Gives result (refs_of meta.now rows.now [] row.now) }
 {
@@ -175,7 +175,7 @@ fn refs_of(
 pub(crate) fn given_by(
     alloc: Global,
     meta: &Metamodel,
-    rows: &[Draft],
+    rows: &[ElementDraft],
 ) -> Result<List<List<DocRefs>>, ModelFault>
     ensures { Gives result (given_by meta.now rows.now) }
 {
@@ -188,7 +188,7 @@ fn given_with(
     alloc: Global,
     meta: &Metamodel,
     finder: &Finder,
-    rows: &[Draft],
+    rows: &[ElementDraft],
 ) -> Result<List<List<DocRefs>>, ModelFault>
     ensures { Gives result (collected (refs_of meta.now finder.now) [] rows.now) }
 {

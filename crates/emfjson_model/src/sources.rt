@@ -3,7 +3,7 @@ ghost use Rattle.std.specs.Prelude.{◌≡◌, ◌&&◌, [], IfOk, OnOk, nat_eq}
 ghost use Rattle.std.specs.List.{list_any};
 ghost use Rattle.model_documents.specs.declared.doc.DocParent.{DocParent};
 ghost use Rattle.model_documents.specs.Finder.{numbers_at};
-ghost use Rattle.model_documents.specs.Merged.{given_at, naming, targets_at};
+ghost use Rattle.model_documents.specs.Completed.{given_at, naming, targets_at};
 ghost use Rattle.model_documents.specs.Places.{parent_eq};
 ghost use Rattle.emfjson_model.specs.Sources.{SourcesOf, also, ends_with, push_once};
 

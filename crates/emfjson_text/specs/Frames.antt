@@ -11,7 +11,7 @@ use Rattle.ecore_meta.specs.declared.meta.Value.{Value}
 use Rattle.model_state.specs.declared.entry.Entry.{Entry}
 use Rattle.model_state.specs.Keys.{IdBytes}
 use Rattle.model_state.specs.State.{State}
-use Rattle.emfjson_io.specs.Values.{data_of}
+use Rattle.emfjson_values.specs.Values.{data_of}
 use Rattle.emfjson_text.specs.declared.frame.Frame.{Frame}
 use Rattle.emfjson_text.specs.declared.frame.Frame.TheVariants.{Object as ObjectFrame, Array as ArrayFrame}
 use Rattle.model_texts.specs.declared.key.Key.{Key}

@@ -6,12 +6,12 @@ ghost use Rattle.std.specs.List.{list_all};
 ghost use Rattle.serde_json.specs.Data.{string};
 ghost use Rattle.serde_json.specs.Written.{compact_text};
 ghost use Rattle.ecore_meta.specs.Typing.{fits};
-ghost use Rattle.emfjson_io.specs.Values.{data_of};
+ghost use Rattle.emfjson_values.specs.Values.{data_of};
 ghost use Rattle.emfjson_text.specs.Frames.{only, references_text, text_if};
 ghost use Rattle.model_texts.specs.Tree.{class_text, entry_ids, listed, reference};
 
 use ecore_meta::{Metamodel, Scalar, Value};
-use emfjson_io::write_value;
+use emfjson_values::write_value;
 use model_state::Entry;
 use serde_json::Value as Json;
 use std::alloc::{AllocError, Global};

@@ -1,4 +1,4 @@
 pub mod Caching
 pub mod Putting
-pub mod Replaying
+pub mod PlayedBytes
 pub mod There

@@ -9,7 +9,7 @@ use Rattle.history_tree.specs.States.{state_of}
 use Rattle.history_tree.proofs.Heads.{head_within}
 use Rattle.model_state.specs.Packages.{fold_package}
 use Rattle.merge_laws.specs.Choices.{are_choices}
-use Rattle.merge_laws.specs.Plans.{incoming}
+use Rattle.merge_laws.specs.Plans.{theirs_of_update}
 use Rattle.merge_laws.specs.Tidy.{tidy}
 use Rattle.op_form.specs.declared.event.Event.{Event}
 use Rattle.op_form.specs.declared.event.Event.TheVariants.{Tidy, Update, Merge}
@@ -17,7 +17,7 @@ use Rattle.op_form.specs.Formed.{IsEvent}
 use Rattle.plain_repository.specs.State.{State, Workspace, folded, is_closed, there, workspace_of, changed_at, with_changed}
 use Rattle.plain_repository.specs.Events.{by_meta, effect, playable_with}
 use Rattle.plain_repository.specs.Merging.{can_merge, can_update, has_theirs, is_other_branch, merge_buckets, merge_tail, merged_with, update_buckets, updated}
-use Rattle.plain_repository.specs.Orderly.{InOrder, IsOrderly, Orderly}
+use Rattle.plain_repository.specs.Orderly.{IsOrderlyWorkspace, IsOrderly, Orderly}
 use Rattle.plain_repository.specs.Tidying.{can_tidy, tidied}
 use Rattle.plain_repository.proofs.Encodings.{and_left}
 use Rattle.plain_repository.proofs.Kept.{effect_keeps}
@@ -96,13 +96,13 @@ tidy_keeps s meta ws w operations orderly begun there closed is =
 
 -- theirs of an update lead from the state of the base to that of the head
 pub update_theirs : (s : State) (meta : Meta) (ws : ℕ) (w : Workspace) (base : ℕ) (theirs : List Operation) → IsOrderly s → s.meta ≡ Some meta
-    → workspace_of s ws ≡ Some w → base ≡ head s.history w.branch → theirs ≡ incoming s.history w.branch w.base
+    → workspace_of s ws ≡ Some w → base ≡ head s.history w.branch → theirs ≡ theirs_of_update s.history w.branch w.base
     → AreTheirs s ws base theirs
 update_theirs s meta ws w base theirs orderly begun there at are =
     let h = s.history in
     let t = is_there s meta ws w orderly begun there in
     let k : Orderly meta s = kept s meta t.in_state in
-    let q : InOrder meta h w = in_order s meta w t in
+    let q : IsOrderlyWorkspace meta h w = in_order s meta w t in
     of_there (λ n v. fold_package n (state_of n h v.base) theirs ≡ Some (state_of n h base)) s meta ws w begun there
     (ap (fold_package meta (state_of meta h w.base)) are
     ∙ after_leads meta k.metamodel.sound h k.whole k.versions w.base (head h w.branch) (head_within h w.branch k.whole) q.stands.on_path

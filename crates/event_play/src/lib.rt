@@ -1,7 +1,7 @@
 //! Whether an event could be made at a point, and its playing; the same of an event's bytes.
 #![tactic(auto)]
 
-mod merged;
+mod merging;
 mod playing;
 
-pub use playing::{play, replay};
+pub use playing::{play, play_bytes};

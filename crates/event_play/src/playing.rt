@@ -8,17 +8,17 @@ ghost use Rattle.op_form.specs.Formed.{is_event, IsEvent};
 ghost use Rattle.plain_repository.specs.State.{workspace_of, is_closed, is_open, has_operations, has_local};
 ghost use Rattle.plain_repository.specs.Events.{effect, play, playable, playable_with, suits};
 ghost use Rattle.version_states.specs.Cached.{MayUse, Uses};
-ghost use Rattle.repo_state.specs.Cached.{HasForms};
+ghost use Rattle.repo_state.specs.Cached.{HasEncodings};
 ghost use Rattle.event_play.specs.Playing.{is_at_head, is_tested_late};
 
-use crate::merged::{merge, tidy, update};
+use crate::merging::{merge, tidy, update};
 use commit_journal::{MOST_BYTES, next_gate};
 use history_tree::Signature;
 use model_state::is_name;
 use op_form::Event;
 use op_reading::{FormFault, decode_event};
 use page_pool::Pool;
-use repo_state::{ReplayFault, Repo};
+use repo_state::{PlayFault, Repo};
 use state_cache::Cache;
 use std::alloc::{AllocError, Global};
 use texts::Text;
@@ -236,18 +236,18 @@ fn change(
     pool: &mut Pool,
     repo: &mut Repo,
     event: Event,
-) -> Result<(), ReplayFault>
+) -> Result<(), PlayFault>
     requires tested { (is_tested_late event || playable_with repo.old repo.old.meta event) ≡ true }
     requires spelled { IsEvent event }
     requires short { length (event_encoding event) ≤ most_bytes }
     requires usable { MayUse pool.old cache.old }
-    requires forms { HasForms repo.old pool.old cache.old }
+    requires forms { HasEncodings repo.old pool.old cache.old }
     ensures could { OnOk result (playable_with repo.old repo.old.meta event ≡ true) }
     ensures done { OnOk result (repo.new ≡ effect repo.old event) }
     ensures same { OnErr result (repo.new ≡ repo.old) }
-    ensures cannot { IsErrOf result ReplayFault.NotPlayable → playable_with repo.old repo.old.meta event ≡ false }
+    ensures cannot { IsErrOf result PlayFault.NotPlayable → playable_with repo.old repo.old.meta event ≡ false }
     ensures uses { Uses pool.old pool.new cache.old cache.new }
-    ensures forms { HasForms repo.old pool.new cache.new }
+    ensures forms { HasEncodings repo.old pool.new cache.new }
 {
     match event {
         Event::Init { text } => repo.begin(alloc, &text),
@@ -307,26 +307,26 @@ fn make(
     repo: &mut Repo,
     event: Event,
     size: usize,
-) -> Result<(), ReplayFault>
+) -> Result<(), PlayFault>
     requires event { is_event event ≡ true }
     requires size { size ≡ length (event_encoding event) }
     requires room { next_gate repo.old.end size < 2 ^ 40 }
     requires usable { MayUse pool.old cache.old }
-    requires forms { HasForms repo.old pool.old cache.old }
+    requires forms { HasEncodings repo.old pool.old cache.old }
     ensures could { OnOk result (IsTrue (playable repo.old event)) }
     ensures made { OnOk result (repo.new ≡ play repo.old event) }
     ensures same { OnErr result (repo.new ≡ repo.old) }
-    ensures cannot { IsErrOf result ReplayFault.NotPlayable → playable repo.old event ≡ false }
+    ensures cannot { IsErrOf result PlayFault.NotPlayable → playable repo.old event ≡ false }
     ensures uses { Uses pool.old pool.new cache.old cache.new }
-    ensures forms { HasForms repo.new pool.new cache.new }
+    ensures forms { HasEncodings repo.new pool.new cache.new }
 {
     if repo.is_full() || size as u64 > MOST_BYTES {
         drop(event);
-        return Err(ReplayFault::NotPlayable);
+        return Err(PlayFault::NotPlayable);
     }
     if !suits(repo, &event) || !could(repo, &event) {
         drop(event);
-        return Err(ReplayFault::NotPlayable);
+        return Err(PlayFault::NotPlayable);
     }
     repo.recall_order();
     let events = repo.event_count() + 1;
@@ -350,16 +350,16 @@ pub fn play(
     requires size { size ≡ length (event_encoding event) }
     requires room { next_gate repo.old.end size < 2 ^ 40 }
     requires usable { MayUse pool.old cache.old }
-    requires forms { HasForms repo.old pool.old cache.old }
+    requires forms { HasEncodings repo.old pool.old cache.old }
     ensures played { OnOk result (repo.new ≡ play repo.old event) }
     ensures same { OnErr result (repo.new ≡ repo.old) }
     ensures uses { Uses pool.old pool.new cache.old cache.new }
-    ensures forms { HasForms repo.new pool.new cache.new }
+    ensures forms { HasEncodings repo.new pool.new cache.new }
 {
     match make(alloc, cache, pool, repo, event, size) {
         Ok(()) => Ok(()),
-        Err(ReplayFault::Memory) => Err(AllocError),
-        Err(ReplayFault::NotPlayable) => unreachable!(),
+        Err(PlayFault::Memory) => Err(AllocError),
+        Err(PlayFault::NotPlayable) => unreachable!(),
     }
 }
 
@@ -369,26 +369,26 @@ pub fn play(
 ///
 /// `NotPlayable` where they are no event that could be made here, and out of memory. The repository stays as it is.
 #[tactic(auto, using(version_states::proofs::Caching::uses_none))]
-pub fn replay(
+pub fn play_bytes(
     alloc: Global,
     cache: &mut Cache,
     pool: &mut Pool,
     repo: &mut Repo,
     bytes: &[u8],
-) -> Result<(), ReplayFault>
+) -> Result<(), PlayFault>
     requires room { next_gate repo.old.end (length bytes.now) < 2 ^ 40 }
     requires usable { MayUse pool.old cache.old }
-    requires forms { HasForms repo.old pool.old cache.old }
+    requires forms { HasEncodings repo.old pool.old cache.old }
     ensures played { OnOk result ((event : Event) × IsTrue (playable repo.old event) × (bytes.now ≡ event_encoding event) × (repo.new ≡ play repo.old event)) }
-    ensures refused { IsErrOf result ReplayFault.NotPlayable → (event : Event) → IsTrue (playable repo.old event) → bytes.now ≢ event_encoding event }
+    ensures refused { IsErrOf result PlayFault.NotPlayable → (event : Event) → IsTrue (playable repo.old event) → bytes.now ≢ event_encoding event }
     ensures same { OnErr result (repo.new ≡ repo.old) }
     ensures uses { Uses pool.old pool.new cache.old cache.new }
-    ensures forms { HasForms repo.new pool.new cache.new }
+    ensures forms { HasEncodings repo.new pool.new cache.new }
 {
     let event = match decode_event(alloc, bytes) {
         Ok(event) => event,
-        Err(FormFault::NotForm { .. }) => return Err(ReplayFault::NotPlayable),
-        Err(FormFault::Memory) => return Err(ReplayFault::Memory),
+        Err(FormFault::NotForm { .. }) => return Err(PlayFault::NotPlayable),
+        Err(FormFault::Memory) => return Err(PlayFault::Memory),
     };
     make(alloc, cache, pool, repo, event, bytes.len())
 }

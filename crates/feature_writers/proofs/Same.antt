@@ -8,7 +8,7 @@ use Rattle.ecore_meta.specs.Meta.{Meta}
 use Rattle.model_state.specs.Keys.{IdBytes}
 use Rattle.history_tree.specs.History.{History, path}
 use Rattle.history_tree.specs.Whole.{IsWhole}
-use Rattle.history_tree.specs.States.{package_at}
+use Rattle.history_tree.specs.States.{package_of_version}
 use Rattle.history_tree.specs.Laws.{Rises}
 use Rattle.change_index.specs.Index.{index_of, wrote_in}
 use Rattle.change_index.specs.Last.{IsLast, last_of}
@@ -32,11 +32,11 @@ module _ (asked : PathsAreAsked) (meta : Meta) (h : History) (whole : IsWhole h)
   last_is last one found e f =
       let index = index_of meta (take (length h.versions) h.versions) in
       let by_index : IsLast (wrote_in index e f) (path h v) (last_of (wrote_in index e f) (path h v)) = found (wrote_in index e f) (path h v) path_rises in
-      let by_history : IsLast (λ u. wrote meta (package_at h.versions u) e f) (path h v) (last_of (wrote_in index e f) (path h v)) =
+      let by_history : IsLast (λ u. wrote meta (package_of_version h.versions u) e f) (path h v) (last_of (wrote_in index e f) (path h v)) =
       last meta h whole (length h.versions) v (le_refl _) there e f _ by_index in
       ap (λ vs. last_of (wrote_in (index_of meta vs) e f) (path h v)) (sym (take-length h.versions))
-      ∙ one (λ u. wrote meta (package_at h.versions u) e f) (path h v) _ _ by_history
-      (found (λ u. wrote meta (package_at h.versions u) e f) (path h v) path_rises)
+      ∙ one (λ u. wrote meta (package_of_version h.versions u) e f) (path h v) _ _ by_history
+      (found (λ u. wrote meta (package_of_version h.versions u) e f) (path h v) path_rises)
 
   -- whatever the names of the index and the path
   pub lasts_are : LastIsOfHistory → LastIsOne → LastIsFound → (index : List Pairs) → index ≡ index_of meta h.versions → (us : List ℕ) → us ≡ path h v

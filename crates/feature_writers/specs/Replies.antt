@@ -18,7 +18,7 @@ use Rattle.script_lang.specs.declared.reply.Refusal.TheVariants as refusals
 use Rattle.script_lang.specs.declared.reply.Last.TheVariants as last
 use Rattle.script_lang.specs.declared.reply.Reply.{Reply}
 use Rattle.plain_repository.specs.State.{State}
-use Rattle.plain_repository.specs.Specs.{named, unknown}
+use Rattle.plain_repository.specs.Specs.{found_by_spec, unknown}
 use Rattle.feature_writers.specs.declared.fault.Fault.{Fault}
 use Rattle.feature_writers.specs.declared.fault.Fault.TheVariants as faults
 use Rattle.feature_writers.specs.Writers.{last_write, blame_lines}
@@ -60,7 +60,7 @@ feature_of meta class feature = do
 unfoldable pub query_of : State → Spec → List ℕ → List ℕ → List ℕ → Result (Option ℕ) Refusal
 query_of s spec word class feature = do
   meta ← ok_or s.meta refusals.NotInit
-  v ← version_of (named s.history spec)
+  v ← version_of (found_by_spec s.history spec)
   e ← id_of word
   f ← feature_of meta class feature
   Ok (last_write meta s.history v e f)
@@ -69,7 +69,7 @@ query_of s spec word class feature = do
 unfoldable pub blame_of : State → Spec → List ℕ → Result (List (List ℕ)) Refusal
 blame_of s spec word = do
   meta ← ok_or s.meta refusals.NotInit
-  v ← version_of (named s.history spec)
+  v ← version_of (found_by_spec s.history spec)
   e ← id_of word
   Ok (blame_lines meta s.history v e)
 

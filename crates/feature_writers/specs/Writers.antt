@@ -6,13 +6,13 @@ use Rattle.ecore_meta.specs.Meta.{Meta}
 use Rattle.metamodel_growth.specs.Extension.{full_name}
 use Rattle.model_state.specs.Keys.{IdBytes}
 use Rattle.history_tree.specs.History.{History, path}
-use Rattle.history_tree.specs.States.{package_at}
+use Rattle.history_tree.specs.States.{package_of_version}
 use Rattle.change_index.specs.Last.{last_of}
 use Rattle.change_index.specs.Written.{wrote}
 
 -- the last version on a version's path whose operations wrote the feature, or none
 abbrev pub last_write : Meta → History → ℕ → IdBytes → ℕ → Option ℕ
-last_write meta h v e f = last_of (λ u. wrote meta (package_at h.versions u) e f) (path h v)
+last_write meta h v e f = last_of (λ u. wrote meta (package_of_version h.versions u) e f) (path h v)
 
 -- a feature with the class that declares it, and the version that wrote it last
 abbrev pub blame_line : Meta → ℕ → ℕ → List ℕ

@@ -1,6 +1,6 @@
 //! What the words of a question name, each with its refusal.
 ghost use Rattle.std.specs.Prelude.{◌≡◌, ◌<◌, IfOk, length};
-ghost use Rattle.plain_repository.specs.Specs.{named};
+ghost use Rattle.plain_repository.specs.Specs.{found_by_spec};
 ghost use Rattle.feature_writers.specs.Replies.{Gives, version_of, id_of, is_held, if_held, feature_of};
 
 use crate::fault::Fault;
@@ -12,7 +12,7 @@ use std::alloc::Global;
 
 /// What a word names: a version, by its number, its branch or its tag.
 fn find(history: &History, spec: &Spec) -> Result<Found, FindFault>
-    ensures found { result ≡ named history.now.history spec.now }
+    ensures found { result ≡ found_by_spec history.now.history spec.now }
     ensures there { IfOk result (λ found. found.version < length history.now.history.versions) }
 {
     match spec {
@@ -24,7 +24,7 @@ fn find(history: &History, spec: &Spec) -> Result<Found, FindFault>
 
 /// The version that a word names.
 pub(crate) fn version_of(history: &History, spec: &Spec) -> Result<u32, Fault>
-    ensures version { Gives result (version_of (named history.now.history spec.now)) }
+    ensures version { Gives result (version_of (found_by_spec history.now.history spec.now)) }
     ensures there { IfOk result (λ v. v < length history.now.history.versions) }
 {
     match find(history, spec) {

@@ -2,7 +2,7 @@
 ghost use Rattle.std.specs.Prelude.{◌≡◌, ◌≤◌, List, ℕ, IsTrue, IfOk, false};
 ghost use Rattle.host_port.specs.Host.{disk_now};
 ghost use Rattle.page_pool.specs.Frames.{out_of};
-ghost use Rattle.commit_journal.specs.Journal.{IsAtRest, IsShort};
+ghost use Rattle.commit_journal.specs.Journal.{IsJournalAtRest, IsShort};
 
 use commit_journal::{Fit, Journal, JournalFault, Walk, fits, give_up};
 use host_port::{Host, MemoryHost};
@@ -67,13 +67,13 @@ fn a_frame_that_was_written_is_blank_when_it_is_taken_again(rt: HostRuntime) {
 // The journal of a store that has no records.
 fn opened<H: Host>(alloc: Global, host: &mut H) -> Result<Journal, JournalFault>
     ensures whole { IfOk result (λ journal. journal.broken ≡ false) }
-    ensures at_rest { IfOk result (λ journal. IsTrue (H.told host.new).tells → ((forms : List (List ℕ)) × IsAtRest (disk_now (H.told host.new)) forms journal.end)) }
+    ensures at_rest { IfOk result (λ journal. IsTrue (H.told host.new).tells → ((forms : List (List ℕ)) × IsJournalAtRest (disk_now (H.told host.new)) forms journal.end)) }
 {
     let mut walk = Walk::mount(host)?;
     let Some(_) = walk.next_bytes(alloc, host)? else {
         return Ok(walk.finish());
     };
-    Err(JournalFault::Damaged { at: walk.place() })
+    Err(JournalFault::Damaged { at: walk.offset() })
 }
 
 // In how many frames a byte string's record lies that is made ready, and how many are out once it is given up.

@@ -28,13 +28,13 @@ mixed (x ∷ xs) [] = []
 mixed (x ∷ xs) (y ∷ ys) = record { theirs = x ∷ xs; mine = y ∷ ys } ∷ []
 
 -- the mixed components whose first operation stands below a place, in order
-abbrev pub rows : List ℕ → List ℕ → ℕ → List Bucket
-rows ts ms zero = []
-rows ts ms (suc n) = rows ts ms n ++ mixed (places n ts) (places n ms)
+abbrev pub buckets_below : List ℕ → List ℕ → ℕ → List Bucket
+buckets_below ts ms zero = []
+buckets_below ts ms (suc n) = buckets_below ts ms n ++ mixed (places n ts) (places n ms)
 
 -- the mixed components of theirs and then mine, in the order of their first operations
 unfoldable pub buckets : Meta → List Operation → List Operation → List Bucket
 buckets meta theirs mine =
     let n = length theirs in
     let ls = labels meta (theirs ++ mine) in
-    rows (take n ls) (drop n ls) n
+    buckets_below (take n ls) (drop n ls) n

@@ -7,7 +7,7 @@ ghost use Rattle.model_state.specs.Steps.{fold};
 ghost use Rattle.footprint.specs.Interference.{interferes};
 
 use ecore_meta::Metamodel;
-use model_laws::replay;
+use model_laws::take_in_order;
 use model_state::{Change, Operation, Step};
 use std::alloc::AllocError;
 
@@ -17,7 +17,7 @@ fn take_steps<M: Change>(model: &mut M, meta: &Metamodel, steps: &[Step]) -> Res
     ensures done { OnOk result (fold meta.now (M.state model.old) steps.now ≡ Some (M.state model.new)) }
     ensures good { Good meta.now (M.state model.new) }
 {
-    match replay(model, meta, steps) {
+    match take_in_order(model, meta, steps) {
         Ok(()) => Ok(()),
         Err(_) => Err(AllocError),
     }

@@ -28,14 +28,14 @@ same_past (b ∷ front) end (suc n) bytes other is same =
     let after = same_past front end n bytes first.0 (omega (arith, is)) first.2 in
     (after.0, first.1 ∙ ap (λ bs. b ∷ bs) after.1, after.2)
 
-pub end_behind : (kind : Field) (front bytes : List ℕ) (place : ℕ)
-    → field_end kind (length front + place) (front ++ bytes) ≡ length front + field_end kind place bytes
-end_behind (Byte n) front bytes place = omega arith
-end_behind (Number n) front bytes place = omega arith
-end_behind (LongNumber n) front bytes place = omega arith
-end_behind (Text text) front bytes place =
-    ap (λ bs. length front + place + 4 + from_be_bytes w32 (take 4 bs)) (drop-append-add front bytes place)
-    ∙ apart (length front) place (from_be_bytes w32 (take 4 (drop place bytes)))
+pub end_behind : (kind : Field) (front bytes : List ℕ) (offset : ℕ)
+    → field_end kind (length front + offset) (front ++ bytes) ≡ length front + field_end kind offset bytes
+end_behind (Byte n) front bytes offset = omega arith
+end_behind (Number n) front bytes offset = omega arith
+end_behind (LongNumber n) front bytes offset = omega arith
+end_behind (Text text) front bytes offset =
+    ap (λ bs. length front + offset + 4 + from_be_bytes w32 (take 4 bs)) (drop-append-add front bytes offset)
+    ∙ apart (length front) offset (from_be_bytes w32 (take 4 (drop offset bytes)))
   where
     apart : (a b c : ℕ) → a + b + 4 + c ≡ a + (b + 4 + c)
     apart a b c = omega arith

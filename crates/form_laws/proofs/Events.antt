@@ -63,5 +63,5 @@ event_exact = record {
   sample = Upgrade;
   has = tt;
   encoded = event_encoded;
-  faults = λ bytes place are fault e. tagged_faults event_rows Upgrade tt 16 [] refl bytes place are fault e;
+  faults = λ bytes offset are fault e. tagged_faults event_rows Upgrade tt 16 [] refl bytes offset are fault e;
 }

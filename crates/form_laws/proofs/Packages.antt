@@ -23,32 +23,33 @@ use Rattle.form_laws.proofs.Parts.{both_exact, list_exact, some_exact, known, ta
 use Rattle.form_laws.proofs.Steps.{step_exact}
 
 -- a byte that is no kind's
-kind_unknown : (n : ℕ) (bytes : List ℕ) (place : ℕ) (fault : FormFault) → (kind : Option OpKind) → kind_of n ≡ kind
-    → kind_from place kind (at bytes (place + 1)) ≡ Err fault
-    → Fault (λ kind. Unit {0}) kind_fields (λ r. u8_at r >>= λ byte. kind_from r.place (kind_of byte.0) byte.1) (n ∷ bytes) place fault
+kind_unknown : (n : ℕ) (bytes : List ℕ) (offset : ℕ) (fault : FormFault) → (kind : Option OpKind) → kind_of n ≡ kind
+    → kind_from offset kind (at bytes (offset + 1)) ≡ Err fault
+    → Fault (λ kind. Unit {0}) kind_fields (λ r. u8_at r >>= λ byte. kind_from r.offset (kind_of byte.0) byte.1) (n ∷ bytes) offset fault
 unfolding byte_at
-kind_unknown n bytes place fault (Some kind) is e = cc
-kind_unknown n bytes place fault None none e =
-    let is : fault ≡ NotForm place = err_is (NotForm place) fault e in
-    at_first (λ kind. Unit {0}) kind_fields (λ r. u8_at r >>= λ byte. kind_from r.place (kind_of byte.0) byte.1) kinds.Create tt
-    (n ∷ bytes) place fault (Byte 1) [] refl is
+kind_unknown n bytes offset fault (Some kind) is e = cc
+kind_unknown n bytes offset fault None none e =
+    let is : fault ≡ NotForm offset = err_is (NotForm offset) fault e in
+    at_first (λ kind. Unit {0}) kind_fields (λ r. u8_at r >>= λ byte. kind_from r.offset (kind_of byte.0) byte.1) kinds.Create tt
+    (n ∷ bytes) offset fault (Byte 1) [] refl is
     (λ other same.
     let m = same_past (n ∷ []) 0 1 bytes other (omega arith) same in
-    ap (λ bs. u8_at (at bs place) >>= λ byte. kind_from place (kind_of byte.0) byte.1) m.1 ∙ ap (λ kind. kind_from place kind (at m.0 (place + 1))) none
+    ap (λ bs. u8_at (at bs offset) >>= λ byte. kind_from offset (kind_of byte.0) byte.1) m.1 ∙ ap (λ kind. kind_from offset kind (at m.0 (offset + 1))) none
     ∙ ap Err (sym is))
 
-kind_faults : (bytes : List ℕ) (place : ℕ) (fault : FormFault) → (u8_at (at bytes place) >>= λ byte. kind_from place (kind_of byte.0) byte.1) ≡ Err fault
-    → Fault (λ kind. Unit {0}) kind_fields (λ r. u8_at r >>= λ byte. kind_from r.place (kind_of byte.0) byte.1) bytes place fault
+kind_faults : (bytes : List ℕ) (offset : ℕ) (fault : FormFault) → (u8_at (at bytes offset) >>= λ byte. kind_from offset (kind_of byte.0) byte.1) ≡ Err fault
+    → Fault (λ kind. Unit {0}) kind_fields (λ r. u8_at r >>= λ byte. kind_from r.offset (kind_of byte.0) byte.1) bytes offset fault
 unfolding byte_at
-kind_faults [] place fault e =
-    at_first (λ kind. Unit {0}) kind_fields (λ r. u8_at r >>= λ byte. kind_from r.place (kind_of byte.0) byte.1) kinds.Create tt [] place fault (Byte 1) [] refl
-    (err_is (NotForm place) fault e)
-    (λ other same. ap (λ bs. u8_at (at bs place) >>= λ byte. kind_from place (kind_of byte.0) byte.1) (same_all 1 [] other (omega arith) same) ∙ e)
-kind_faults (n ∷ bytes) place fault e = kind_unknown n bytes place fault (kind_of n) refl e
+kind_faults [] offset fault e =
+    at_first (λ kind. Unit {0}) kind_fields (λ r. u8_at r >>= λ byte. kind_from r.offset (kind_of byte.0) byte.1) kinds.Create tt [] offset fault
+    (Byte 1) [] refl
+    (err_is (NotForm offset) fault e)
+    (λ other same. ap (λ bs. u8_at (at bs offset) >>= λ byte. kind_from offset (kind_of byte.0) byte.1) (same_all 1 [] other (omega arith) same) ∙ e)
+kind_faults (n ∷ bytes) offset fault e = kind_unknown n bytes offset fault (kind_of n) refl e
 
 kind_exact : Exact kind_codes kind_fields
 unfolding kind_at
-kind_exact = record { sample = kinds.Create; has = tt; encoded = λ kind. refl; faults = λ bytes place are fault e. kind_faults bytes place fault e }
+kind_exact = record { sample = kinds.Create; has = tt; encoded = λ kind. refl; faults = λ bytes offset are fault e. kind_faults bytes offset fault e }
 
 name_exact : Exact name_codes text_fields
 unfolding name_at
@@ -56,7 +57,7 @@ name_exact = record {
   sample = codes "a";
   has = refl;
   encoded = text_exact.encoded;
-  faults = λ bytes place are fault e. tested_faults is_name (codes "a") refl bytes place are fault e;
+  faults = λ bytes offset are fault e. tested_faults is_name (codes "a") refl bytes offset are fault e;
 }
 
 operation_encoded : (operation : Operation) → operation_encoding operation ≡ fields_encoding (operation_fields operation)
@@ -72,12 +73,12 @@ operation_exact =
       sample = Simple sample.sample.0 sample.sample.1;
       has = sample.has;
       encoded = operation_encoded;
-      faults = λ bytes place are fault e.
+      faults = λ bytes offset are fault e.
           tagged_faults (
           known (both_exact kind_exact (some_exact step_exact)) IsOperation operation_fields (λ t. Simple t.0 t.1) 1 (λ t is. is) (λ t is. refl) ∷
           known (both_exact name_exact (some_exact step_exact)) IsOperation operation_fields (λ t. Composite t.0 t.1) 2 (λ t is. is) (λ t is. refl) ∷ [])
           (Simple sample.sample.0 sample.sample.1) sample.has 1
-          (kind_fields sample.sample.0 ++ list_fields step_fields sample.sample.1) refl bytes place are fault e;
+          (kind_fields sample.sample.0 ++ list_fields step_fields sample.sample.1) refl bytes offset are fault e;
     }
 
 pub package_exact : Exact package_codes package_fields

@@ -118,7 +118,7 @@ step_exact = record {
   sample = RerankPlace (codes "a") 0 0;
   has = (refl, (omega arith, omega arith));
   encoded = step_encoded;
-  faults = λ bytes place are fault e.
+  faults = λ bytes offset are fault e.
       tagged_faults step_rows (RerankPlace (codes "a") 0 0) (refl, (omega arith, omega arith)) 11
-      (text_fields (codes "a") ++ (long_fields 0 ++ long_fields 0)) refl bytes place are fault e;
+      (text_fields (codes "a") ++ (long_fields 0 ++ long_fields 0)) refl bytes offset are fault e;
 }

@@ -22,38 +22,38 @@ use Rattle.form_laws.proofs.Ends.{same_all, same_past}
 use Rattle.form_laws.proofs.Faults.{Fault, Exact, err_is, at_first}
 
 -- a text can't be read at its place, nor what is the same up to its end
-pub record TextFails (bytes : List ℕ) (place : ℕ) (fault : FormFault) : Type 0 where
-  pub is : fault ≡ NotForm place
-  pub fails : (other : List ℕ) → IsSameUpTo (field_end (Text []) 0 bytes) bytes other → any_text_at (at other place) ≡ Err fault
+pub record TextFails (bytes : List ℕ) (offset : ℕ) (fault : FormFault) : Type 0 where
+  pub is : fault ≡ NotForm offset
+  pub fails : (other : List ℕ) → IsSameUpTo (field_end (Text []) 0 bytes) bytes other → any_text_at (at other offset) ≡ Err fault
 
 -- the number that was read is that of the first four bytes
-number_is : (bytes : List ℕ) (place n : ℕ) (mid : Rest) → number_at w32 (at bytes place) ≡ Ok (n, mid) → from_be_bytes w32 (take 4 bytes) ≡ n
+number_is : (bytes : List ℕ) (offset n : ℕ) (mid : Rest) → number_at w32 (at bytes offset) ≡ Ok (n, mid) → from_be_bytes w32 (take 4 bytes) ≡ n
 unfolding number_at
-number_is bytes place n mid e =
-    let k = not_fault (nat_lt (length bytes) 4) (read_faults.Short place) (Ok (from_be_bytes w32 (take 4 bytes), past (at bytes place) 4)) (n, mid) e in
-    ap (λ p. p.0) (ok_is (from_be_bytes w32 (take 4 bytes), past (at bytes place) 4) (n, mid) k.1)
+number_is bytes offset n mid e =
+    let k = not_fault (nat_lt (length bytes) 4) (read_faults.Short offset) (Ok (from_be_bytes w32 (take 4 bytes), past (at bytes offset) 4)) (n, mid) e in
+    ap (λ p. p.0) (ok_is (from_be_bytes w32 (take 4 bytes), past (at bytes offset) 4) (n, mid) k.1)
 
 -- the number of the first four bytes, or that they are too few
 abbrev number_of : ℕ → List ℕ → Bool → Result (ℕ × Rest) ReadFault
-number_of place bytes short = cond short (Err (read_faults.Short place)) (Ok (from_be_bytes w32 (take 4 bytes), past (at bytes place) 4))
+number_of offset bytes short = cond short (Err (read_faults.Short offset)) (Ok (from_be_bytes w32 (take 4 bytes), past (at bytes offset) 4))
 
-number_fails : (bytes : List ℕ) (place : ℕ) (f : ReadFault) → number_at w32 (at bytes place) ≡ Err f → (length bytes < 4) × (f ≡ read_faults.Short place)
+number_fails : (bytes : List ℕ) (offset : ℕ) (f : ReadFault) → number_at w32 (at bytes offset) ≡ Err f → (length bytes < 4) × (f ≡ read_faults.Short offset)
 unfolding number_at
-number_fails bytes place f e = by (nat_lt (length bytes) 4) refl e
+number_fails bytes offset f e = by (nat_lt (length bytes) 4) refl e
   where
     by : (short : Bool) → nat_lt (length bytes) 4 ≡ short
-        → number_of place bytes short ≡ Err f
-        → (length bytes < 4) × (f ≡ read_faults.Short place)
-    by true short e = (leb-true (suc (length bytes)) 4 short, err_is (read_faults.Short place) f e)
+        → number_of offset bytes short ≡ Err f
+        → (length bytes < 4) × (f ≡ read_faults.Short offset)
+    by true short e = (leb-true (suc (length bytes)) 4 short, err_is (read_faults.Short offset) f e)
     by false long e = cc
 
 -- what stands behind a text's length: the text, or its fault
 abbrev text_from : ℕ → ℕ × Rest → Result (List ℕ × Rest) ReadFault
-text_from place n =
-    cond (nat_lt (length n.1.bytes) n.0) (Err (read_faults.Short place))
-    (cond (is_utf8 (take n.0 n.1.bytes)) (Ok (take n.0 n.1.bytes, past n.1 n.0)) (Err (read_faults.BadText place)))
+text_from offset n =
+    cond (nat_lt (length n.1.bytes) n.0) (Err (read_faults.Short offset))
+    (cond (is_utf8 (take n.0 n.1.bytes)) (Ok (take n.0 n.1.bytes, past n.1 n.0)) (Err (read_faults.BadText offset)))
 
-text_is : (r : Rest) → text_at r ≡ (number_at w32 r >>= text_from r.place)
+text_is : (r : Rest) → text_at r ≡ (number_at w32 r >>= text_from r.offset)
 unfolding text_at
 text_is r = refl
 
@@ -66,22 +66,22 @@ unfolding u32_encoding
 number_length n = wide32.len n
 
 -- the length was read, and the text can't be
-module _ (n : ℕ) (small : n < 2 ^ 32) (rest : List ℕ) (place : ℕ) (fault : FormFault) where
+module _ (n : ℕ) (small : n < 2 ^ 32) (rest : List ℕ) (offset : ℕ) (fault : FormFault) where
   abbrev TextBehindFails : Type 0
-  TextBehindFails = (fault ≡ NotForm place) × ((bytes other : List ℕ) → bytes ≡ u32_encoding n ++ rest → from_be_bytes w32 (take 4 bytes) ≡ n
-      → IsSameUpTo (field_end (Text []) 0 bytes) bytes other → any_text_at (at other place) ≡ Err fault)
+  TextBehindFails = (fault ≡ NotForm offset) × ((bytes other : List ℕ) → bytes ≡ u32_encoding n ++ rest → from_be_bytes w32 (take 4 bytes) ≡ n
+      → IsSameUpTo (field_end (Text []) 0 bytes) bytes other → any_text_at (at other offset) ≡ Err fault)
 
   abbrev behind_length : List ℕ → Bool → Bool → Result (List ℕ × Rest) FormFault
   behind_length more short utf8 =
-      field (cond short (Err (read_faults.Short place))
-      (cond utf8 (Ok (take n more, past (at more (place + length (u32_encoding n))) n)) (Err (read_faults.BadText place))))
+      field (cond short (Err (read_faults.Short offset))
+      (cond utf8 (Ok (take n more, past (at more (offset + length (u32_encoding n))) n)) (Err (read_faults.BadText offset))))
 
-  length_read : (more : List ℕ) → any_text_at (at (u32_encoding n ++ more) place) ≡ behind_length more (nat_lt (length more) n) (is_utf8 (take n more))
-  length_read more = ap field (text_is (at (u32_encoding n ++ more) place)) ∙ ap (λ r. field (r >>= text_from place)) (u32_again n small more place)
+  length_read : (more : List ℕ) → any_text_at (at (u32_encoding n ++ more) offset) ≡ behind_length more (nat_lt (length more) n) (is_utf8 (take n more))
+  length_read more = ap field (text_is (at (u32_encoding n ++ more) offset)) ∙ ap (λ r. field (r >>= text_from offset)) (u32_again n small more offset)
 
   -- as many bytes that are no UTF-8
   no_utf8 : (more : List ℕ) → take n more ≡ take n rest → n ≤ length rest → is_utf8 (take n rest) ≡ false
-      → any_text_at (at (u32_encoding n ++ more) place) ≡ Err (NotForm place)
+      → any_text_at (at (u32_encoding n ++ more) offset) ≡ Err (NotForm offset)
   no_utf8 more alike long utf8 =
       let short : nat_lt (length more) n ≡ false = le-ltb _ _ (enough n more rest alike long) in
       length_read more ∙ ap (λ b. behind_length more b (is_utf8 (take n more))) short ∙ ap (behind_length more false) (ap is_utf8 alike ∙ utf8)
@@ -89,7 +89,7 @@ module _ (n : ℕ) (small : n < 2 ^ 32) (rest : List ℕ) (place : ℕ) (fault :
   by_utf8 : nat_lt (length rest) n ≡ false → (utf8 : Bool) → is_utf8 (take n rest) ≡ utf8 → behind_length rest false utf8 ≡ Err fault → TextBehindFails
   by_utf8 long true utf8 e = cc
   by_utf8 long false utf8 e =
-      let is : fault ≡ NotForm place = err_is (NotForm place) fault e in (
+      let is : fault ≡ NotForm offset = err_is (NotForm offset) fault e in (
         is,
         λ bytes other are_these is_n same.
             let four = number_length n in
@@ -98,12 +98,12 @@ module _ (n : ℕ) (small : n < 2 ^ 32) (rest : List ℕ) (place : ℕ) (fault :
             = subst (λ bs. IsSameUpTo (field_end (Text []) 0 bytes) bs other) are_these same in
             let m = same_past (u32_encoding n) n (field_end (Text []) 0 bytes) rest other end these in
             let fails = no_utf8 m.0 m.2.before (not_less (length rest) n long) utf8 in
-            ap (λ bs. any_text_at (at bs place)) m.1 ∙ (fails ∙ ap Err (sym is)),
+            ap (λ bs. any_text_at (at bs offset)) m.1 ∙ (fails ∙ ap Err (sym is)),
       )
 
   by_length : (short : Bool) → nat_lt (length rest) n ≡ short → behind_length rest short (is_utf8 (take n rest)) ≡ Err fault → TextBehindFails
   by_length true short e =
-      let is : fault ≡ NotForm place = err_is (NotForm place) fault e in (
+      let is : fault ≡ NotForm offset = err_is (NotForm offset) fault e in (
         is,
         λ bytes other are_these is_n same.
             let lt : length rest < n = leb-true (suc (length rest)) n short in
@@ -111,38 +111,38 @@ module _ (n : ℕ) (small : n < 2 ^ 32) (rest : List ℕ) (place : ℕ) (fault :
             let four = number_length n in
             let long : length bytes ≡ length (u32_encoding n) + length rest = ap length are_these ∙ length-append (u32_encoding n) rest in
             let cut_off : length bytes < field_end (Text []) 0 bytes = omega (arith, end, long, four, lt) in
-            ap (λ bs. any_text_at (at bs place)) (same_all (field_end (Text []) 0 bytes) bytes other cut_off same ∙ are_these) ∙ length_read rest
+            ap (λ bs. any_text_at (at bs offset)) (same_all (field_end (Text []) 0 bytes) bytes other cut_off same ∙ are_these) ∙ length_read rest
             ∙ ap (λ b. behind_length rest b (is_utf8 (take n rest))) short ∙ ap Err (sym is),
       )
   by_length false long e = by_utf8 long (is_utf8 (take n rest)) refl e
 
-pub text_fails : (bytes : List ℕ) (place : ℕ) → AreBytes bytes → (fault : FormFault) → any_text_at (at bytes place) ≡ Err fault → TextFails bytes place fault
-text_fails bytes place are fault e = by (number_at w32 (at bytes place)) refl (sym (ap field (text_is (at bytes place))) ∙ e)
+pub text_fails : (bytes : List ℕ) (offset : ℕ) → AreBytes bytes → (fault : FormFault) → any_text_at (at bytes offset) ≡ Err fault → TextFails bytes offset fault
+text_fails bytes offset are fault e = by (number_at w32 (at bytes offset)) refl (sym (ap field (text_is (at bytes offset))) ∙ e)
   where
-    by : (r : Result (ℕ × Rest) ReadFault) → number_at w32 (at bytes place) ≡ r → field (r >>= text_from place) ≡ Err fault → TextFails bytes place fault
+    by : (r : Result (ℕ × Rest) ReadFault) → number_at w32 (at bytes offset) ≡ r → field (r >>= text_from offset) ≡ Err fault → TextFails bytes offset fault
     by (Err f) number e_from =
-        let k = number_fails bytes place f number in
-        let is : f ≡ read_faults.Short place = k.1 in
+        let k = number_fails bytes offset f number in
+        let is : f ≡ read_faults.Short offset = k.1 in
         let short : length bytes < field_end (Text []) 0 bytes = omega (arith, k.0) in
         record {
-          is = err_is (NotForm place) fault (sym (ap (λ g. field {X = List ℕ × Rest} (Err g)) is) ∙ e_from);
-          fails = λ other same. ap (λ bs. any_text_at (at bs place)) (same_all (field_end (Text []) 0 bytes) bytes other short same) ∙ e;
+          is = err_is (NotForm offset) fault (sym (ap (λ g. field {X = List ℕ × Rest} (Err g)) is) ∙ e_from);
+          fails = λ other same. ap (λ bs. any_text_at (at bs offset)) (same_all (field_end (Text []) 0 bytes) bytes other short same) ∙ e;
         }
     by (Ok n) number e_from =
-        let s = u32_spelled (at bytes place) are n.0 n.1 number in
-        let e_there : behind_length n.0 s.is n.1.bytes place fault n.1.bytes (nat_lt (length n.1.bytes) n.0) (is_utf8 (take n.0 n.1.bytes)) ≡ Err fault
-        = ap (λ k. field (text_from place (n.0, at n.1.bytes k))) (sym s.place) ∙ e_from in
-        let k = by_length n.0 s.is n.1.bytes place fault (nat_lt (length n.1.bytes) n.0) refl e_there in
-        record { is = k.0; fails = λ other same. k.1 bytes other s.bytes (number_is bytes place n.0 n.1 number) same }
+        let s = u32_spelled (at bytes offset) are n.0 n.1 number in
+        let e_there : behind_length n.0 s.is n.1.bytes offset fault n.1.bytes (nat_lt (length n.1.bytes) n.0) (is_utf8 (take n.0 n.1.bytes)) ≡ Err fault
+        = ap (λ k. field (text_from offset (n.0, at n.1.bytes k))) (sym s.offset) ∙ e_from in
+        let k = by_length n.0 s.is n.1.bytes offset fault (nat_lt (length n.1.bytes) n.0) refl e_there in
+        record { is = k.0; fails = λ other same. k.1 bytes other s.bytes (number_is bytes offset n.0 n.1 number) same }
 
 no_text : IsShortText []
 no_text = (omega arith, IsUtf8-nil)
 
-text_faults : (bytes : List ℕ) (place : ℕ) → AreBytes bytes → (fault : FormFault) → any_text_at (at bytes place) ≡ Err fault
-    → Fault IsShortText text_fields any_text_at bytes place fault
-text_faults bytes place are fault e =
-    let t = text_fails bytes place are fault e in
-    at_first IsShortText text_fields any_text_at [] no_text bytes place fault (Text []) [] refl t.is t.fails
+text_faults : (bytes : List ℕ) (offset : ℕ) → AreBytes bytes → (fault : FormFault) → any_text_at (at bytes offset) ≡ Err fault
+    → Fault IsShortText text_fields any_text_at bytes offset fault
+text_faults bytes offset are fault e =
+    let t = text_fails bytes offset are fault e in
+    at_first IsShortText text_fields any_text_at [] no_text bytes offset fault (Text []) [] refl t.is t.fails
 
 pub text_exact : Exact text_codes text_fields
 text_exact = record { sample = []; has = no_text; encoded = λ text. sym (append-nil (text_encoding text)); faults = text_faults }
@@ -159,41 +159,42 @@ text_end text rest is =
 -- a text that passes a test, where these are short texts
 module _ (test : List ℕ → Bool) (sample : List ℕ) (has : test sample ≡ true) where
   abbrev TestedFault : List ℕ → ℕ → FormFault → Type 0
-  TestedFault bytes place fault = Fault (λ text. test text ≡ true) text_fields (λ r. any_text_at r >>= tested_text test r.place) bytes place fault
+  TestedFault bytes offset fault = Fault (λ text. test text ≡ true) text_fields (λ r. any_text_at r >>= tested_text test r.offset) bytes offset fault
 
   -- a text that fails the test, whatever stands behind it
-  told : (text more : List ℕ) (place : ℕ) → IsShortText text → test text ≡ false
-      → (any_text_at (at (text_encoding text ++ more) place) >>= tested_text test place) ≡ Err (NotForm place)
-  told text more place is failed =
-      ap (λ r. r >>= tested_text test place) (text_codes.again text is more place)
-      ∙ ap (λ b. cond {A = Result (List ℕ × Rest) FormFault} b (Ok (text, at more (place + length (text_encoding text)))) (Err (NotForm place))) failed
+  told : (text more : List ℕ) (offset : ℕ) → IsShortText text → test text ≡ false
+      → (any_text_at (at (text_encoding text ++ more) offset) >>= tested_text test offset) ≡ Err (NotForm offset)
+  told text more offset is failed =
+      ap (λ r. r >>= tested_text test offset) (text_codes.again text is more offset)
+      ∙ ap (λ b. cond {A = Result (List ℕ × Rest) FormFault} b (Ok (text, at more (offset + length (text_encoding text)))) (Err (NotForm offset))) failed
 
-  told_fault : (bytes : List ℕ) (place : ℕ) → AreBytes bytes → (fault : FormFault) (text : List ℕ) (mid : Rest) → any_text_at (at bytes place) ≡ Ok (text, mid)
-      → (b : Bool) → test text ≡ b → cond {A = Result (List ℕ × Rest) FormFault} b (Ok (text, mid)) (Err (NotForm place)) ≡ Err fault
-      → TestedFault bytes place fault
-  told_fault bytes place are fault text mid read true passes e = cc
-  told_fault bytes place are fault text mid read false failed e =
-      let is = err_is (NotForm place) fault e in
-      let s = text_codes.spelled (at bytes place) are text mid read in
-      at_first (λ text. test text ≡ true) text_fields (λ r. any_text_at r >>= tested_text test r.place) sample has bytes place fault (Text sample) [] refl is
+  told_fault : (bytes : List ℕ) (offset : ℕ) → AreBytes bytes → (fault : FormFault) (text : List ℕ) (mid : Rest)
+      → any_text_at (at bytes offset) ≡ Ok (text, mid)
+      → (b : Bool) → test text ≡ b → cond {A = Result (List ℕ × Rest) FormFault} b (Ok (text, mid)) (Err (NotForm offset)) ≡ Err fault
+      → TestedFault bytes offset fault
+  told_fault bytes offset are fault text mid read true passes e = cc
+  told_fault bytes offset are fault text mid read false failed e =
+      let is = err_is (NotForm offset) fault e in
+      let s = text_codes.spelled (at bytes offset) are text mid read in
+      at_first (λ text. test text ≡ true) text_fields (λ r. any_text_at r >>= tested_text test r.offset) sample has bytes offset fault (Text sample) [] refl is
       (λ other same.
       let whole : IsSameUpTo (field_end (Text []) 0 (text_encoding text ++ mid.bytes)) (text_encoding text ++ mid.bytes) other
       = subst (λ bs. IsSameUpTo (field_end (Text []) 0 bs) bs other) s.bytes same in
       let m = same_past (text_encoding text) 0 (field_end (Text []) 0 (text_encoding text ++ mid.bytes)) mid.bytes other (text_end text mid.bytes s.is) whole in
-      let fails = told text m.0 place s.is failed in
-      ap (λ bs. any_text_at (at bs place) >>= tested_text test place) m.1 ∙ (fails ∙ ap Err (sym is)))
+      let fails = told text m.0 offset s.is failed in
+      ap (λ bs. any_text_at (at bs offset) >>= tested_text test offset) m.1 ∙ (fails ∙ ap Err (sym is)))
 
-  tested_by : (bytes : List ℕ) (place : ℕ) → AreBytes bytes → (fault : FormFault) → (r : Result (List ℕ × Rest) FormFault) → any_text_at (at bytes place) ≡ r
-      → (r >>= tested_text test place) ≡ Err fault → TestedFault bytes place fault
-  tested_by bytes place are fault (Err f) read e =
+  tested_by : (bytes : List ℕ) (offset : ℕ) → AreBytes bytes → (fault : FormFault) → (r : Result (List ℕ × Rest) FormFault) → any_text_at (at bytes offset) ≡ r
+      → (r >>= tested_text test offset) ≡ Err fault → TestedFault bytes offset fault
+  tested_by bytes offset are fault (Err f) read e =
       let same : fault ≡ f = err_is f fault e in
-      let t = text_fails bytes place are f read in
-      at_first (λ text. test text ≡ true) text_fields (λ r. any_text_at r >>= tested_text test r.place) sample has bytes place fault (Text sample) [] refl
+      let t = text_fails bytes offset are f read in
+      at_first (λ text. test text ≡ true) text_fields (λ r. any_text_at r >>= tested_text test r.offset) sample has bytes offset fault (Text sample) [] refl
       (same ∙ t.is)
-      (λ other alike. ap (λ r. r >>= tested_text test place) (t.fails other alike) ∙ ap Err (sym same))
-  tested_by bytes place are fault (Ok text) read e = told_fault bytes place are fault text.0 text.1 read (test text.0) refl e
+      (λ other alike. ap (λ r. r >>= tested_text test offset) (t.fails other alike) ∙ ap Err (sym same))
+  tested_by bytes offset are fault (Ok text) read e = told_fault bytes offset are fault text.0 text.1 read (test text.0) refl e
 
-  pub tested_faults : (bytes : List ℕ) (place : ℕ) → AreBytes bytes → (fault : FormFault)
-      → (any_text_at (at bytes place) >>= tested_text test place) ≡ Err fault
-      → Fault (λ text. test text ≡ true) text_fields (λ r. any_text_at r >>= tested_text test r.place) bytes place fault
-  tested_faults bytes place are fault e = tested_by bytes place are fault (any_text_at (at bytes place)) refl e
+  pub tested_faults : (bytes : List ℕ) (offset : ℕ) → AreBytes bytes → (fault : FormFault)
+      → (any_text_at (at bytes offset) >>= tested_text test offset) ≡ Err fault
+      → Fault (λ text. test text ≡ true) text_fields (λ r. any_text_at r >>= tested_text test r.offset) bytes offset fault
+  tested_faults bytes offset are fault e = tested_by bytes offset are fault (any_text_at (at bytes offset)) refl e

@@ -25,7 +25,7 @@ id_exact = record {
   sample = codes "a";
   has = refl;
   encoded = text_exact.encoded;
-  faults = λ bytes place are fault e. tested_faults is_id (codes "a") refl bytes place are fault e;
+  faults = λ bytes offset are fault e. tested_faults is_id (codes "a") refl bytes offset are fault e;
 }
 
 signed_fits : (n : ℕ) → n < 2 ^ 64 → FitsSigned w64 (cast_signed w64 n)
@@ -44,8 +44,8 @@ unfolding flag_at value_fields
 flag_row = record {
   tag = 2;
   read = flag_at;
-  faults = λ bytes place are fault e.
-      tagged_faults (flag_lone 0 (values.Flag false) ∷ flag_lone 1 (values.Flag true) ∷ []) (values.Flag false) (tt, refl) 0 [] refl bytes place are fault e;
+  faults = λ bytes offset are fault e.
+      tagged_faults (flag_lone 0 (values.Flag false) ∷ flag_lone 1 (values.Flag true) ∷ []) (values.Flag false) (tt, refl) 0 [] refl bytes offset are fault e;
 }
 
 flag_encoded : (b : Bool) → flag_encoding b ≡ fields_encoding (flag_fields b)
@@ -65,17 +65,17 @@ value_exact = record {
   sample = values.Flag false;
   has = tt;
   encoded = value_encoded;
-  faults = λ bytes place are fault e.
+  faults = λ bytes offset are fault e.
       tagged_faults (
       known text_exact IsValue value_fields (λ t. values.Text t) 1 (λ t is. is) (λ t is. refl) ∷
       flag_row ∷
       known u64_exact IsValue value_fields (λ n. values.Whole (cast_signed w64 n)) 3 (λ n is. signed_fits n is)
       (λ n is. ap (λ m. Byte 3 ∷ long_fields m) (of_z-to_z w64 n is)) ∷
       known u32_exact IsValue value_fields (λ n. values.Literal n) 4 (λ n is. is) (λ n is. refl) ∷ []) (values.Flag false) tt 2
-      (flag_fields false) refl bytes place are fault e;
+      (flag_fields false) refl bytes offset are fault e;
 }
 
-place_encoded : (place : Place) → place_encoding place ≡ fields_encoding (place_fields place)
+place_encoded : (offset : Place) → place_encoding offset ≡ fields_encoding (place_fields offset)
 unfolding place_encoding place_fields
 place_encoded Root = refl
 place_encoded (Inside parent feature) = ap (λ bs. 1 ∷ bs) ((both_exact id_exact u32_exact).encoded (parent, feature))
@@ -86,9 +86,9 @@ place_exact = record {
   sample = Root;
   has = tt;
   encoded = place_encoded;
-  faults = λ bytes place are fault e.
+  faults = λ bytes offset are fault e.
       tagged_faults (
       lone IsPlace place_fields 0 Root ∷
       known (both_exact id_exact u32_exact) IsPlace place_fields (λ t. Inside t.0 t.1) 1 (λ t is. is)
-      (λ t is. refl) ∷ []) Root tt 0 [] refl bytes place are fault e;
+      (λ t is. refl) ∷ []) Root tt 0 [] refl bytes offset are fault e;
 }

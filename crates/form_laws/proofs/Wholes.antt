@@ -19,19 +19,19 @@ use Rattle.form_laws.proofs.Ends.{same_behind, same_past}
 use Rattle.form_laws.proofs.Faults.{Fault, Exact, err_is}
 
 -- bytes that are left over after a value
-left_over : {X : Type 0} (x : X) (bytes : List ℕ) (place : ℕ) (fault : FormFault)
-    → ◌≡◌ {A = Result X FormFault} (field (ends_at (at bytes place)) >>= λ end. Ok x) (Err fault)
-    → (b : ℕ) × (rest : List ℕ) × (bytes ≡ b ∷ rest) × (fault ≡ NotForm place)
-left_over x [] place fault e = cc
-left_over {X} x (b ∷ rest) place fault e =
+left_over : {X : Type 0} (x : X) (bytes : List ℕ) (offset : ℕ) (fault : FormFault)
+    → ◌≡◌ {A = Result X FormFault} (field (ends_at (at bytes offset)) >>= λ end. Ok x) (Err fault)
+    → (b : ℕ) × (rest : List ℕ) × (bytes ≡ b ∷ rest) × (fault ≡ NotForm offset)
+left_over x [] offset fault e = cc
+left_over {X} x (b ∷ rest) offset fault e =
     let left : nat_lt 0 (length (b ∷ rest)) ≡ true = le-leb 1 (length (b ∷ rest)) (omega arith) in
-    let spare = sym (ap (λ t. ◌>>=◌ {B = X} (field (cond t (Err (read_faults.Spare place)) (Ok tt))) (λ end. Ok x)) left) ∙ e in
-    (b, rest, refl, err_is (NotForm place) fault spare)
+    let spare = sym (ap (λ t. ◌>>=◌ {B = X} (field (cond t (Err (read_faults.Spare offset)) (Ok tt))) (λ end. Ok x)) left) ∙ e in
+    (b, rest, refl, err_is (NotForm offset) fault spare)
 
 module _ {X : Type 0} {Is : X → Type 0} {form : X → List ℕ} {read : Reading X} {codes : Codes Is form read} {fields : X → List Field}
     (exact : Exact codes fields) where
   Placed : List ℕ → FormFault → Type 0
-  Placed bytes fault = (place : ℕ) × (fault ≡ NotForm place) × FitsUpTo Is form fields place bytes
+  Placed bytes fault = (offset : ℕ) × (fault ≡ NotForm offset) × FitsUpTo Is form fields offset bytes
 
   -- an encoding is read to its end
   read_whole : (x : X) → Is x → read (at (form x) 0) ≡ Ok (x, at [] (0 + length (form x)))
@@ -65,13 +65,13 @@ module _ {X : Type 0} {Is : X → Type 0} {form : X → List ℕ} {read : Readin
       cc
 
   behind_value : (bytes : List ℕ) (fault : FormFault) (x : X) (mid : Rest) → StoodThere Is form (at bytes 0) mid x → (b : ℕ) (rest : List ℕ)
-      → mid.bytes ≡ b ∷ rest → fault ≡ NotForm mid.place
+      → mid.bytes ≡ b ∷ rest → fault ≡ NotForm mid.offset
       → Placed bytes fault
   unfolding Placed
   behind_value bytes fault x mid stood b rest is_mid is =
       let here : bytes ≡ form x ++ (b ∷ rest) = stood.bytes ∙ ap (λ more. form x ++ more) is_mid in (
         length (form x),
-        is ∙ ap (λ k. NotForm k) (stood.place ∙ omega arith),
+        is ∙ ap (λ k. NotForm k) (stood.offset ∙ omega arith),
         record {
           within = omega (arith, ap length here, length-append (form x) (b ∷ rest));
           value = x;
@@ -93,7 +93,7 @@ module _ {X : Type 0} {Is : X → Type 0} {form : X → List ℕ} {read : Readin
   whole_by bytes are fault (Err f) read_is e =
       subst (Placed bytes) (sym (err_is f fault e)) (in_a_field bytes f (exact.faults bytes 0 are f read_is))
   whole_by bytes are fault (Ok x) read_is e =
-      let left = left_over x.0 x.1.bytes x.1.place fault e in
+      let left = left_over x.0 x.1.bytes x.1.offset fault e in
       behind_value bytes fault x.0 x.1 (codes.spelled (at bytes 0) are x.0 x.1 read_is) left.0 left.1 left.2 left.3
 
   pub whole_faults : FaultsArePlaced Is form fields (whole_of read)

@@ -69,8 +69,8 @@ step_fields (Link a f ra b rb) = Byte 5 ∷ (text_fields a ++ (number_fields f +
 step_fields (Unlink a f ra b rb) =
     Byte 6 ∷ (text_fields a ++ (number_fields f ++ (long_fields ra ++ (text_fields b ++ option_fields long_fields rb))))
 step_fields (RerankRow a f b old new) = Byte 7 ∷ (text_fields a ++ (number_fields f ++ (text_fields b ++ (long_fields old ++ long_fields new))))
-step_fields (New e class place rank) = Byte 8 ∷ (text_fields e ++ (number_fields class ++ (place_fields place ++ long_fields rank)))
-step_fields (Gone e class place rank) = Byte 9 ∷ (text_fields e ++ (number_fields class ++ (place_fields place ++ long_fields rank)))
+step_fields (New e class offset rank) = Byte 8 ∷ (text_fields e ++ (number_fields class ++ (place_fields offset ++ long_fields rank)))
+step_fields (Gone e class offset rank) = Byte 9 ∷ (text_fields e ++ (number_fields class ++ (place_fields offset ++ long_fields rank)))
 step_fields (Move e from from_rank to to_rank above_from above_to) =
     Byte 10 ∷ (text_fields e ++ (place_fields from ++ (long_fields from_rank ++ (place_fields to ++ (long_fields to_rank
     ++ (list_fields text_fields above_from ++ list_fields text_fields above_to))))))

@@ -12,15 +12,15 @@ use Rattle.form_laws.specs.Fields.{Field, fields_encoding, first_end, IsSameUpTo
 use Rattle.form_laws.specs.Events.{package_fields, event_fields}
 
 -- the bytes before the place are the first fields of some value; no encoding is the same up to the end of a field there, of the next one's kind
-pub record FitsUpTo {X : Type 0} (Is : X → Type 0) (form : X → List ℕ) (fields : X → List Field) (place : ℕ) (bytes : List ℕ) : Type 0 where
-  pub within : place ≤ length bytes
+pub record FitsUpTo {X : Type 0} (Is : X → Type 0) (form : X → List ℕ) (fields : X → List Field) (offset : ℕ) (bytes : List ℕ) : Type 0 where
+  pub within : offset ≤ length bytes
   pub value : X
   pub is : Is value
   pub front : List Field
   pub more : List Field
   pub parts : fields value ≡ front ++ more
-  pub before : fields_encoding front ≡ take place bytes
-  pub there : (x : X) → Is x → IsSameUpTo (first_end more place bytes) bytes (form x) → ⊥
+  pub before : fields_encoding front ≡ take offset bytes
+  pub there : (x : X) → Is x → IsSameUpTo (first_end more offset bytes) bytes (form x) → ⊥
 
 -- an encoding is the bytes of the fields, one after another
 abbrev pub FieldsAreEncoded : {X : Type 0} → (X → List ℕ) → (X → List Field) → Type 0
@@ -30,7 +30,7 @@ FieldsAreEncoded form fields = (x : _) → form x ≡ fields_encoding (fields x)
 abbrev pub FaultsArePlaced : {X : Type 0} → (X → Type 0) → (X → List ℕ) → (X → List Field) → (List ℕ → Result X FormFault) → Type 0
 FaultsArePlaced Is form fields read =
     (bytes : List ℕ) → AreBytes bytes → (fault : FormFault) → read bytes ≡ Err fault
-    → (place : ℕ) × (fault ≡ NotForm place) × FitsUpTo Is form fields place bytes
+    → (offset : ℕ) × (fault ≡ NotForm offset) × FitsUpTo Is form fields offset bytes
 
 -- the encoding of each package is the bytes of its fields
 abbrev pub PackagesAreFields : Type 0

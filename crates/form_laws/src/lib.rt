@@ -1,4 +1,4 @@
-//! The law of the place at which bytes are refused that are no package or no event. A law is the contract of a function
+//! The law of the offset at which bytes are refused that are no package or no event. A law is the contract of a function
 //! that does nothing.
 #![tactic(auto)]
 

@@ -19,7 +19,7 @@ use Rattle.spread_maps.proofs.SpreadLaws.{IsJoined, get-spread, spread-set}
 use Rattle.model_state.specs.Keys.{IdBytes, id_cmp}
 use Rattle.model_state.proofs.Orders.{id_order, nat_order}
 use Rattle.ranked_lists.specs.Ranks.{Ranks}
-use Rattle.graph_parts.specs.Parts.{flat, ListKey, list_key_cmp, by_list, feature_lists, AreFilled, is_emptied, kept}
+use Rattle.graph_parts.specs.Parts.{flat, ListKey, list_key_cmp, by_list, feature_lists, AreFilled, is_emptied, if_filled}
 use Rattle.graph_parts.proofs.Flat.{at_feature, get-flat}
 
 pub list_key_order : IsKeyOrder list_key_cmp
@@ -83,7 +83,7 @@ module _ (t u : List (ℕ × Ranks)) (f : ℕ) (e : IdBytes) where
   without : Option Ranks → Option Ranks
   without o = option_map (λ (g : Ranks). set g e None) o
 
-  in_kept : (w : Option Ranks) (i : IdBytes) → in_list (kept w) i ≡ in_list w i
+  in_kept : (w : Option Ranks) (i : IdBytes) → in_list (if_filled w) i ≡ in_list w i
   in_kept None i = refl
   in_kept (Some g) i = elim (is_bare g) as (λ b. is_bare g ≡ b → in_list (cond b None (Some g)) i ≡ get g i) [
     | true ↦ λ bare. sym (bare_none id_order g bare i)
@@ -94,15 +94,15 @@ module _ (t u : List (ℕ × Ranks)) (f : ℕ) (e : IdBytes) where
   in_without None i = elim (eq_by_cmp id_cmp i e) as (λ b. ◌≡◌ {A = Option ℕ} None (cond b None None)) [ true ↦ refl | false ↦ refl ]
   in_without (Some g) i = get-set id_order g e None i
 
-  pub list_dropped : flat u ≡ set (flat t) f (kept (option_map (λ (g : Ranks). set g e None) (get (flat t) f)))
+  pub list_dropped : flat u ≡ set (flat t) f (if_filled (option_map (λ (g : Ranks). set g e None) (get (flat t) f)))
       → feature_lists u ≡ set (feature_lists t) (f, e) None
   list_dropped is =
-      list_written t u f e None (kept (option_map (λ (g : Ranks). set g e None) (get (flat t) f))) is
+      list_written t u f e None (if_filled (option_map (λ (g : Ranks). set g e None) (get (flat t) f))) is
       (λ i. in_kept (option_map (λ (g : Ranks). set g e None) (get (flat t) f)) i ∙ in_without (get (flat t) f) i)
 
-  pub filled_dropped : AreFilled t → flat u ≡ set (flat t) f (kept (option_map (λ (g : Ranks). set g e None) (get (flat t) f))) → AreFilled u
+  pub filled_dropped : AreFilled t → flat u ≡ set (flat t) f (if_filled (option_map (λ (g : Ranks). set g e None) (get (flat t) f))) → AreFilled u
   filled_dropped filled is =
-      filled_written t u f (kept (option_map (λ (g : Ranks). set g e None) (get (flat t) f))) filled is
+      filled_written t u f (if_filled (option_map (λ (g : Ranks). set g e None) (get (flat t) f))) filled is
       (λ g same. full (option_map (λ (g : Ranks). set g e None) (get (flat t) f)) g same)
     where
       one_group : (g h : Ranks) → Some g ≡ Some h → g ≡ h
@@ -111,14 +111,14 @@ module _ (t u : List (ℕ × Ranks)) (f : ℕ) (e : IdBytes) where
       no_group : (g : Ranks) → None ≡ Some g → ⊥
       no_group g same = cc
 
-      full : (w : Option Ranks) (g : Ranks) → kept w ≡ Some g → is_bare g ≡ false
+      full : (w : Option Ranks) (g : Ranks) → if_filled w ≡ Some g → is_bare g ≡ false
       full None g same = absurd (no_group g same)
       full (Some h) g same = elim (is_bare h) as (λ b. is_bare h ≡ b → cond b None (Some h) ≡ Some g → is_bare g ≡ false) [
         | true ↦ λ _ same. absurd (no_group g same)
         | false ↦ λ full same. subst (λ (x : Ranks). is_bare x ≡ false) (one_group h g same) full
       ] refl same
 
-pub emptied_kept : (w : Option Ranks) (b : Bool) → b ≡ is_emptied w → (b ≡ true → kept w ≡ None) × (b ≡ false → kept w ≡ w)
+pub emptied_kept : (w : Option Ranks) (b : Bool) → b ≡ is_emptied w → (b ≡ true → if_filled w ≡ None) × (b ≡ false → if_filled w ≡ w)
 emptied_kept None b is = (λ _. refl, λ _. refl)
 emptied_kept (Some g) b is = (λ yes. ap (λ t. cond t None (Some g)) (sym is ∙ yes), λ not. ap (λ t. cond t None (Some g)) (sym is ∙ not))
 

@@ -50,9 +50,9 @@ is_emptied None = false
 is_emptied (Some g) = is_bare g
 
 -- a list that is there, where it has an element
-abbrev pub kept : Option Ranks → Option Ranks
-kept None = None
-kept (Some g) = cond (is_bare g) None (Some g)
+abbrev pub if_filled : Option Ranks → Option Ranks
+if_filled None = None
+if_filled (Some g) = cond (is_bare g) None (Some g)
 
 -- the values of the attributes of an element
 abbrev pub Values : Type 0
@@ -63,13 +63,13 @@ abbrev pub values_code : Coded Values
 values_code = code coded_ℕ (coded_list value_type.the_row.coded)
 
 -- the references to an element, by source and feature
-abbrev pub Sources : Type 0
-Sources = FinMap attr_cmp ℕ
+abbrev pub IncomingRanks : Type 0
+IncomingRanks = FinMap attr_cmp ℕ
 
 -- the code of those references
-abbrev pub sources_code : Coded Sources
-sources_code = code (coded× coded_id coded_ℕ) coded_ℕ
+abbrev pub incoming_code : Coded IncomingRanks
+incoming_code = code (coded× coded_id coded_ℕ) coded_ℕ
 
 -- a reference to an element, with its rank
-abbrev pub arrived : AttrKey × ℕ → Incoming
-arrived e = record { source = e.0.0; feature = e.0.1; rank = e.1 }
+abbrev pub incoming_of : AttrKey × ℕ → Incoming
+incoming_of e = record { source = e.0.0; feature = e.0.1; rank = e.1 }

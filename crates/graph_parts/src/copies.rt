@@ -14,7 +14,7 @@ use std::alloc::{AllocError, Global};
 use std::collections::BTreeMap;
 
 /// The same references in memory of their own.
-pub fn copied_sources(
+pub fn copied_incoming(
     alloc: Global,
     tree: &BTreeMap<(Id, u32), u64>,
 ) -> Result<BTreeMap<(Id, u32), u64>, AllocError>

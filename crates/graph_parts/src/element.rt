@@ -2,9 +2,9 @@
 ghost use Rattle.std.specs.Prelude.{◌≡◌, IfOk};
 ghost use Rattle.std.specs.FinMap.{empty};
 
-use crate::arrivals::Arrivals;
 use crate::attrs::Attrs;
 use crate::feature_lists::FeatureLists;
+use crate::incoming::IncomingReferences;
 use model_state::Placed;
 use std::alloc::{AllocError, Global};
 
@@ -16,7 +16,7 @@ pub struct Node {
     pub placed: Placed,
     pub attrs: Attrs,
     pub out: FeatureLists,
-    pub into: Arrivals,
+    pub into: IncomingReferences,
     pub inside: FeatureLists,
 }
 
@@ -35,7 +35,7 @@ impl Node {
             placed,
             attrs: Attrs::new(alloc),
             out: FeatureLists::new(alloc),
-            into: Arrivals::new(alloc),
+            into: IncomingReferences::new(alloc),
             inside: FeatureLists::new(alloc),
         }
     }

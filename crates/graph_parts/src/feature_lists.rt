@@ -6,7 +6,7 @@ ghost use Rattle.finite_maps.specs.Maps.{set};
 ghost use Rattle.spread_maps.specs.Spread.{is_bare};
 ghost use Rattle.model_state.specs.Keys.{IdBytes};
 ghost use Rattle.ranked_lists.specs.Ranks.{Ranks};
-ghost use Rattle.graph_parts.specs.Parts.{flat, is_emptied, kept};
+ghost use Rattle.graph_parts.specs.Parts.{flat, is_emptied, if_filled};
 
 use crate::by_feature::{add, index_of, without};
 use crate::copies::copied_lists;
@@ -89,7 +89,7 @@ fn drop_of(items: &mut Vec<(u32, RankedList)>, f: u32, e: &Id) -> bool
 
 /// Takes an element out of the list of a feature, and the list too once it is empty.
 fn drop_in(items: &mut Vec<(u32, RankedList)>, f: u32, e: &Id)
-    ensures { flat items.new.items ≡ set (flat items.old.items) f (kept (option_map (λ g. set g e.now None) (get (flat items.old.items) f))) }
+    ensures { flat items.new.items ≡ set (flat items.old.items) f (if_filled (option_map (λ g. set g e.now None) (get (flat items.old.items) f))) }
 {
     if drop_of(items, f, e) {
         without(items, f);

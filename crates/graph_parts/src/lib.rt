@@ -2,17 +2,17 @@
 //! it, and the elements inside it.
 #![tactic(auto)]
 
-mod arrivals;
 mod attrs;
 mod by_feature;
 mod copies;
 mod element;
 mod feature_lists;
+mod incoming;
 mod pieces;
 mod value_list;
 
-pub use arrivals::Arrivals;
 pub use attrs::Attrs;
 pub use element::Node;
 pub use feature_lists::FeatureLists;
+pub use incoming::IncomingReferences;
 pub use value_list::ValueList;

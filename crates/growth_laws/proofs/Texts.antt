@@ -35,7 +35,7 @@ use Rattle.model_state.specs.State.{State, place_eq}
 use Rattle.model_state.specs.Typing.{is_concrete}
 use Rattle.model_state.specs.Steps.{class_has}
 use Rattle.model_state.specs.Good.{AttrOk, Good, PlaceOk, ValuesOk}
-use Rattle.emfjson_io.specs.Values.{data_of}
+use Rattle.emfjson_values.specs.Values.{data_of}
 use Rattle.model_texts.specs.declared.key.Key.{Key}
 use Rattle.model_texts.specs.declared.key.Key.TheVariants.{Ident, Class, Feature}
 use Rattle.model_texts.specs.Keys.{key_cmp, key_name, key_number, keys_of}

@@ -14,7 +14,7 @@ use Rattle.history_tree.specs.declared.version.Branch.{Branch}
 use Rattle.history_tree.specs.declared.version.Tag.{Tag}
 use Rattle.history_tree.specs.History.{History, first_version, first_history, with_version, with_branch, with_tag, path, path_at, path_before}
 use Rattle.history_tree.specs.History.{paths_from, last_on, head}
-use Rattle.history_tree.specs.States.{package_at, operations_of, operations_to}
+use Rattle.history_tree.specs.States.{package_of_version, operations_of, operations_to}
 use Rattle.history_tree.specs.Whole.{IsWhole, ComesBefore}
 use Rattle.history_tree.specs.Laws.{path_of_parent}
 use Rattle.history_tree.proofs.Heads.{head_within, head_more, head_other, other_number, same_number}
@@ -56,7 +56,7 @@ pub path_there : (h : History) (v : ℕ) → All (λ u. u < length h.versions) (
 path_there h v = All-from_recursion (λ u. u < length h.versions) (path h v) (path_below h v)
 
 -- ---- operations
-package_kept : (vs : List Version) (x : Version) (u : ℕ) → u < length vs → package_at (vs ++ x ∷ []) u ≡ package_at vs u
+package_kept : (vs : List Version) (x : Version) (u : ℕ) → u < length vs → package_of_version (vs ++ x ∷ []) u ≡ package_of_version vs u
 package_kept vs x u within = ap (λ (o : Option Version). option_map_or (λ v. v.«package») o []) (get_left vs (x ∷ []) u within)
 
 operations_same : (vs : List Version) (x : Version) (us : List ℕ) → AreBelow (length vs) us → operations_of (vs ++ x ∷ []) us ≡ operations_of vs us
@@ -66,8 +66,8 @@ operations_same vs x (u ∷ us) all = λ i. package_kept vs x u all.0 i ++ opera
 pub operations_append : (vs : List Version) (us ws : List ℕ) → operations_of vs (us ++ ws) ≡ operations_of vs us ++ operations_of vs ws
 operations_append vs [] ws = refl
 operations_append vs (u ∷ us) ws =
-    ap (λ (l : List Operation). package_at vs u ++ l) (operations_append vs us ws)
-    ∙ sym (append_assoc (package_at vs u) (operations_of vs us) (operations_of vs ws))
+    ap (λ (l : List Operation). package_of_version vs u ++ l) (operations_append vs us ws)
+    ∙ sym (append_assoc (package_of_version vs u) (operations_of vs us) (operations_of vs ws))
 
 -- a further version leaves the operations up to each that is there
 pub operations_kept : (h : History) (x : Version) (k : ℕ) → k < length h.versions → operations_to (with_version h x) k ≡ operations_to h k

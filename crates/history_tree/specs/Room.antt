@@ -7,6 +7,6 @@ abbrev pub most_numbered : ℕ
 most_numbered = 4294967295
 
 -- a history, and how many versions, branches and tags it takes without further memory
-pub record Held : Type 0 where
+pub record HistoryState : Type 0 where
   pub history : History
   pub spare : ℕ

@@ -9,13 +9,13 @@ use Rattle.history_tree.specs.declared.version.Version.{Version}
 use Rattle.history_tree.specs.History.{History, path}
 
 -- the package of the version of that number in a list
-abbrev pub package_at : List Version → ℕ → List Operation
-package_at versions v = option_map_or (λ version. version.«package») (slice_get versions v) []
+abbrev pub package_of_version : List Version → ℕ → List Operation
+package_of_version versions v = option_map_or (λ version. version.«package») (slice_get versions v) []
 
 -- the operations of versions, one version after another
 abbrev pub operations_of : List Version → List ℕ → List Operation
 operations_of versions [] = []
-operations_of versions (v ∷ vs) = package_at versions v ++ operations_of versions vs
+operations_of versions (v ∷ vs) = package_of_version versions v ++ operations_of versions vs
 
 -- the operations of the versions on a version's path
 abbrev pub operations_to : History → ℕ → List Operation

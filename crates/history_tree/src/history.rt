@@ -33,10 +33,10 @@ impl Model for History {
     ghost use Rattle.std.specs.Prelude.{◌-◌, ◌≤◌, min, vec_len, vec_capacity};
     ghost use Rattle.history_tree.specs.Heads.{AreHeads};
     ghost use Rattle.history_tree.specs.Index.{Knows};
-    ghost use Rattle.history_tree.specs.Room.{Held, most_numbered};
+    ghost use Rattle.history_tree.specs.Room.{HistoryState, most_numbered};
     ghost use Rattle.history_tree.specs.Whole.{IsWhole};
 
-    ghost Value = { Held };
+    ghost Value = { HistoryState };
 
     ghost view = { λ h. record { history = record { versions = h.versions.items; branches = h.branches.items; tags = h.tags.items }; spare = min (vec_capacity h.versions - vec_len h.versions) (min (vec_capacity h.branches - vec_len h.branches) (min (vec_capacity h.tags - vec_len h.tags) (vec_capacity h.heads - vec_len h.heads))) } };
 

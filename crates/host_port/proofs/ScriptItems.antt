@@ -30,34 +30,34 @@ split_cons (x ∷ xs) = cons_if (is_lf x) ([] ∷ slice_split is_lf xs) (onto_fi
     (cons_onto x (slice_split is_lf xs))
 
 -- after the line feed of raw the script goes on
-pub cut_ended : (takes : List ℕ → Bool) (place : ℕ) (raw : List ℕ) (parts : List (List ℕ)) → IsCons parts
-    → cut takes place (raw ∷ parts) ≡ after_line takes (line_of place raw true)
-    (λ line. cut_block takes line (place + length raw + 1) (place + length raw + 1) (Ok []) parts)
-    (cut takes (place + length raw + 1) parts)
+pub cut_ended : (takes : List ℕ → Bool) (offset : ℕ) (raw : List ℕ) (parts : List (List ℕ)) → IsCons parts
+    → cut takes offset (raw ∷ parts) ≡ after_line takes (line_of offset raw true)
+    (λ line. cut_block takes line (offset + length raw + 1) (offset + length raw + 1) (Ok []) parts)
+    (cut takes (offset + length raw + 1) parts)
 unfolding cut
-cut_ended takes place raw parts (is_cons a rest e) = subst (λ (ps : List (List ℕ)). cut takes place (raw ∷ ps) ≡ after_line takes (line_of place raw true)
-    (λ line. cut_block takes line (place + length raw + 1) (place + length raw + 1) (Ok []) ps)
-    (cut takes (place + length raw + 1) ps)) (sym e) refl
+cut_ended takes offset raw parts (is_cons a rest e) = subst (λ (ps : List (List ℕ)). cut takes offset (raw ∷ ps) ≡ after_line takes (line_of offset raw true)
+    (λ line. cut_block takes line (offset + length raw + 1) (offset + length raw + 1) (Ok []) ps)
+    (cut takes (offset + length raw + 1) ps)) (sym e) refl
 
-pub cut_last : (takes : List ℕ → Bool) (place : ℕ) (raw : List ℕ)
-    → cut takes place (raw ∷ []) ≡ after_line takes (line_of place raw false) (λ line. ends_by (Some (UnendedBlock (place + length raw)))) (ends_by None)
+pub cut_last : (takes : List ℕ → Bool) (offset : ℕ) (raw : List ℕ)
+    → cut takes offset (raw ∷ []) ≡ after_line takes (line_of offset raw false) (λ line. ends_by (Some (UnendedBlock (offset + length raw)))) (ends_by None)
 unfolding cut
-cut_last takes place raw = refl
+cut_last takes offset raw = refl
 
-pub cut_block_last : (takes : List ℕ → Bool) (line : List ℕ) (start place : ℕ) (text : Result (List ℕ) LineFault) (raw : List ℕ)
-    → cut_block takes line start place text (raw ∷ []) ≡
-    (if ends_block place false raw then after_block line text (ends_by None)
-    else in_block_by (block_line start place false text raw) (λ _. ends_by (Some (UnendedBlock (place + length raw)))))
+pub cut_block_last : (takes : List ℕ → Bool) (line : List ℕ) (start offset : ℕ) (text : Result (List ℕ) LineFault) (raw : List ℕ)
+    → cut_block takes line start offset text (raw ∷ []) ≡
+    (if ends_block offset false raw then after_block line text (ends_by None)
+    else in_block_by (block_line start offset false text raw) (λ _. ends_by (Some (UnendedBlock (offset + length raw)))))
 unfolding cut_block
-cut_block_last takes line start place text raw = refl
+cut_block_last takes line start offset text raw = refl
 
-pub cut_nothing : (takes : List ℕ → Bool) (place : ℕ) → place < input_limit → script_from takes place [] ≡ ends_by None
+pub cut_nothing : (takes : List ℕ → Bool) (offset : ℕ) → offset < input_limit → script_from takes offset [] ≡ ends_by None
 unfolding cut line_of
-cut_nothing takes place h = let far : nat_le input_limit (place + 0) ≡ false = grind arith in rw far refl
+cut_nothing takes offset h = let far : nat_le input_limit (offset + 0) ≡ false = grind arith in rw far refl
 
-pub line_some_within : (place : ℕ) (raw : List ℕ) (e : Bool) (o : Option (List ℕ)) → line_of place raw e ≡ Ok o → place + length raw < input_limit
+pub line_some_within : (offset : ℕ) (raw : List ℕ) (e : Bool) (o : Option (List ℕ)) → line_of offset raw e ≡ Ok o → offset + length raw < input_limit
 unfolding line_of
-line_some_within place raw e o is = grind (arith, common_steps)
+line_some_within offset raw e o is = grind (arith, common_steps)
 
 -- what ended says of the unread bytes
 pub record Ended (unread : List ℕ) : Type 0 where
@@ -84,97 +84,97 @@ unended_splits unread e =
     record { split = slice_split_none is_lf unread (all_before unread at) ∙ ap (λ r. r ∷ []) (sym raw); raw = raw; after = rw at (grind (arith, common_steps)) }
 
 abbrev next_place : ℕ → List ℕ → ℕ → Type 0
-next_place place unread place' = place' + length (after_first is_lf unread) ≡ place + length unread
+next_place offset unread place' = place' + length (after_first is_lf unread) ≡ offset + length unread
 
 -- the script after a line that takes no block
-pub script_line : (takes : List ℕ → Bool) (place place' : ℕ) (unread line : List ℕ) → next_line_of place unread ≡ Ok (Some line) → takes line ≡ false
-    → place' + length (after_first is_lf unread) ≡ place + length unread
-    → script_from takes place unread ≡ with_item line None (script_from takes place' (after_first is_lf unread))
-script_line takes place place' unread line is plain at = go (is_ended unread) refl
+pub script_line : (takes : List ℕ → Bool) (offset place' : ℕ) (unread line : List ℕ) → next_line_of offset unread ≡ Ok (Some line) → takes line ≡ false
+    → place' + length (after_first is_lf unread) ≡ offset + length unread
+    → script_from takes offset unread ≡ with_item line None (script_from takes place' (after_first is_lf unread))
+script_line takes offset place' unread line is plain at = go (is_ended unread) refl
   where
-    go : (e : Bool) → is_ended unread ≡ e → script_from takes place unread ≡ with_item line None (script_from takes place' (after_first is_lf unread))
+    go : (e : Bool) → is_ended unread ≡ e → script_from takes offset unread ≡ with_item line None (script_from takes place' (after_first is_lf unread))
     go true e =
         let s = ended_splits unread e in
-        let of : line_of place (raw_line unread) true ≡ Ok (Some line) = subst (λ (b : Bool). line_of place (raw_line unread) b ≡ Ok (Some line)) e is in
-        let there : place' ≡ place + length (raw_line unread) + 1 = omega (arith, s.total) in
-        rw s.split (rw there (cut_ended takes place (raw_line unread) (slice_split is_lf (after_first is_lf unread))
+        let of : line_of offset (raw_line unread) true ≡ Ok (Some line) = subst (λ (b : Bool). line_of offset (raw_line unread) b ≡ Ok (Some line)) e is in
+        let there : place' ≡ offset + length (raw_line unread) + 1 = omega (arith, s.total) in
+        rw s.split (rw there (cut_ended takes offset (raw_line unread) (slice_split is_lf (after_first is_lf unread))
         (split_cons (after_first is_lf unread)) ∙ rw (of, plain) refl))
     go false e =
         let s = unended_splits unread e in
-        let of : line_of place (raw_line unread) false ≡ Ok (Some line) = subst (λ (b : Bool). line_of place (raw_line unread) b ≡ Ok (Some line)) e is in
-        let within = line_some_within place (raw_line unread) false (Some line) of in
-        let there : place' ≡ place + length (raw_line unread) =
-        rw s.raw (let at' : place' + 0 ≡ place + length unread = rw (sym (ap length s.after)) at in omega arith) in
-        rw s.split (cut_last takes place (raw_line unread)
+        let of : line_of offset (raw_line unread) false ≡ Ok (Some line) = subst (λ (b : Bool). line_of offset (raw_line unread) b ≡ Ok (Some line)) e is in
+        let within = line_some_within offset (raw_line unread) false (Some line) of in
+        let there : place' ≡ offset + length (raw_line unread) =
+        rw s.raw (let at' : place' + 0 ≡ offset + length unread = rw (sym (ap length s.after)) at in omega arith) in
+        rw s.split (cut_last takes offset (raw_line unread)
         ∙ rw (of, plain) (ap (λ x. with_item line None x) (rw s.after (sym (cut_nothing takes place' (omega arith))))))
 
-script_ends : (takes : List ℕ → Bool) (place : ℕ) (unread : List ℕ) (next : Result (Option (List ℕ)) LineFault) (end : Script)
-    → next_line_of place unread ≡ next
-    → ((block : List ℕ → Script) (rest : Script) → after_line takes next block rest ≡ end) → script_from takes place unread ≡ end
-script_ends takes place unread next end is gives = go (is_ended unread) refl
+script_ends : (takes : List ℕ → Bool) (offset : ℕ) (unread : List ℕ) (next : Result (Option (List ℕ)) LineFault) (end : Script)
+    → next_line_of offset unread ≡ next
+    → ((block : List ℕ → Script) (rest : Script) → after_line takes next block rest ≡ end) → script_from takes offset unread ≡ end
+script_ends takes offset unread next end is gives = go (is_ended unread) refl
   where
-    go : (e : Bool) → is_ended unread ≡ e → script_from takes place unread ≡ end
+    go : (e : Bool) → is_ended unread ≡ e → script_from takes offset unread ≡ end
     go true e =
         let s = ended_splits unread e in
-        let of : line_of place (raw_line unread) true ≡ next = subst (λ (b : Bool). line_of place (raw_line unread) b ≡ next) e is in
-        rw s.split (cut_ended takes place (raw_line unread) (slice_split is_lf (after_first is_lf unread)) (split_cons (after_first is_lf unread))
+        let of : line_of offset (raw_line unread) true ≡ next = subst (λ (b : Bool). line_of offset (raw_line unread) b ≡ next) e is in
+        rw s.split (cut_ended takes offset (raw_line unread) (slice_split is_lf (after_first is_lf unread)) (split_cons (after_first is_lf unread))
         ∙ rw of (gives _ _))
     go false e =
         let s = unended_splits unread e in
-        let of : line_of place (raw_line unread) false ≡ next = subst (λ (b : Bool). line_of place (raw_line unread) b ≡ next) e is in
-        rw s.split (cut_last takes place (raw_line unread) ∙ rw of (gives _ _))
+        let of : line_of offset (raw_line unread) false ≡ next = subst (λ (b : Bool). line_of offset (raw_line unread) b ≡ next) e is in
+        rw s.split (cut_last takes offset (raw_line unread) ∙ rw of (gives _ _))
 
-pub script_end : (takes : List ℕ → Bool) (place : ℕ) (unread : List ℕ) → next_line_of place unread ≡ Ok None → script_from takes place unread ≡ ends_by None
-script_end takes place unread is = script_ends takes place unread (Ok None) (ends_by None) is (λ block rest. refl)
+pub script_end : (takes : List ℕ → Bool) (offset : ℕ) (unread : List ℕ) → next_line_of offset unread ≡ Ok None → script_from takes offset unread ≡ ends_by None
+script_end takes offset unread is = script_ends takes offset unread (Ok None) (ends_by None) is (λ block rest. refl)
 
-pub script_fault : (takes : List ℕ → Bool) (place : ℕ) (unread : List ℕ) (fault : LineFault) → next_line_of place unread ≡ Err fault
-    → script_from takes place unread ≡ ends_by (Some fault)
-script_fault takes place unread fault is = script_ends takes place unread (Err fault) (ends_by (Some fault)) is (λ block rest. refl)
+pub script_fault : (takes : List ℕ → Bool) (offset : ℕ) (unread : List ℕ) (fault : LineFault) → next_line_of offset unread ≡ Err fault
+    → script_from takes offset unread ≡ ends_by (Some fault)
+script_fault takes offset unread fault is = script_ends takes offset unread (Err fault) (ends_by (Some fault)) is (λ block rest. refl)
 
 -- ---- blocks
 
-pub cut_block_ended : (takes : List ℕ → Bool) (line : List ℕ) (start place : ℕ) (text : Result (List ℕ) LineFault) (raw : List ℕ)
+pub cut_block_ended : (takes : List ℕ → Bool) (line : List ℕ) (start offset : ℕ) (text : Result (List ℕ) LineFault) (raw : List ℕ)
     (parts : List (List ℕ)) → IsCons parts
-    → cut_block takes line start place text (raw ∷ parts) ≡
-    (if ends_block place true raw then after_block line text (cut takes (place + length raw + 1) parts)
-    else in_block_by (block_line start place true text raw) (λ more. cut_block takes line start (place + length raw + 1) more parts))
+    → cut_block takes line start offset text (raw ∷ parts) ≡
+    (if ends_block offset true raw then after_block line text (cut takes (offset + length raw + 1) parts)
+    else in_block_by (block_line start offset true text raw) (λ more. cut_block takes line start (offset + length raw + 1) more parts))
 unfolding cut_block
-cut_block_ended takes line start place text raw parts (is_cons a rest e) =
-    subst (λ (ps : List (List ℕ)). cut_block takes line start place text (raw ∷ ps) ≡
-    (if ends_block place true raw then after_block line text (cut takes (place + length raw + 1) ps)
-    else in_block_by (block_line start place true text raw) (λ more. cut_block takes line start (place + length raw + 1) more ps))) (sym e) refl
+cut_block_ended takes line start offset text raw parts (is_cons a rest e) =
+    subst (λ (ps : List (List ℕ)). cut_block takes line start offset text (raw ∷ ps) ≡
+    (if ends_block offset true raw then after_block line text (cut takes (offset + length raw + 1) ps)
+    else in_block_by (block_line start offset true text raw) (λ more. cut_block takes line start (offset + length raw + 1) more ps))) (sym e) refl
 
 -- a block goes on after a line of it
-pub block_goes : (takes : List ℕ → Bool) (line : List ℕ) (start place place' : ℕ) (text more : Result (List ℕ) LineFault) (unread : List ℕ)
+pub block_goes : (takes : List ℕ → Bool) (line : List ℕ) (start offset place' : ℕ) (text more : Result (List ℕ) LineFault) (unread : List ℕ)
     → is_ended unread ≡ true
-    → ends_block place true (raw_line unread) ≡ false → block_line start place true text (raw_line unread) ≡ Ok more
-    → place' + length (after_first is_lf unread) ≡ place + length unread
-    → cut_block takes line start place text (slice_split is_lf unread) ≡ cut_block takes line start place' more (slice_split is_lf (after_first is_lf unread))
-block_goes takes line start place place' text more unread e dot is at =
+    → ends_block offset true (raw_line unread) ≡ false → block_line start offset true text (raw_line unread) ≡ Ok more
+    → place' + length (after_first is_lf unread) ≡ offset + length unread
+    → cut_block takes line start offset text (slice_split is_lf unread) ≡ cut_block takes line start place' more (slice_split is_lf (after_first is_lf unread))
+block_goes takes line start offset place' text more unread e dot is at =
     let s = ended_splits unread e in
-    let there : place' ≡ place + length (raw_line unread) + 1 = omega (arith, s.total) in
-    rw s.split (rw there (cut_block_ended takes line start place text (raw_line unread) (slice_split is_lf (after_first is_lf unread))
+    let there : place' ≡ offset + length (raw_line unread) + 1 = omega (arith, s.total) in
+    rw s.split (rw there (cut_block_ended takes line start offset text (raw_line unread) (slice_split is_lf (after_first is_lf unread))
     (split_cons (after_first is_lf unread)) ∙ rw (dot, is) refl))
 
 -- a block ends at its dot
-pub block_ends : (takes : List ℕ → Bool) (line : List ℕ) (start place place' : ℕ) (text : Result (List ℕ) LineFault) (unread : List ℕ)
-    → ends_block place (is_ended unread) (raw_line unread) ≡ true → place + length (raw_line unread) < input_limit
-    → place' + length (after_first is_lf unread) ≡ place + length unread
-    → cut_block takes line start place text (slice_split is_lf unread) ≡ after_block line text (script_from takes place' (after_first is_lf unread))
-block_ends takes line start place place' text unread dot within at = go (is_ended unread) refl
+pub block_ends : (takes : List ℕ → Bool) (line : List ℕ) (start offset place' : ℕ) (text : Result (List ℕ) LineFault) (unread : List ℕ)
+    → ends_block offset (is_ended unread) (raw_line unread) ≡ true → offset + length (raw_line unread) < input_limit
+    → place' + length (after_first is_lf unread) ≡ offset + length unread
+    → cut_block takes line start offset text (slice_split is_lf unread) ≡ after_block line text (script_from takes place' (after_first is_lf unread))
+block_ends takes line start offset place' text unread dot within at = go (is_ended unread) refl
   where
     go : (e : Bool) → is_ended unread ≡ e
-        → cut_block takes line start place text (slice_split is_lf unread) ≡ after_block line text (script_from takes place' (after_first is_lf unread))
+        → cut_block takes line start offset text (slice_split is_lf unread) ≡ after_block line text (script_from takes place' (after_first is_lf unread))
     go true e =
         let s = ended_splits unread e in
-        let dot : ends_block place true (raw_line unread) ≡ true = subst (λ (b : Bool). ends_block place b (raw_line unread) ≡ true) e dot in
-        let there : place' ≡ place + length (raw_line unread) + 1 = omega (arith, s.total) in
-        rw s.split (rw there (cut_block_ended takes line start place text (raw_line unread) (slice_split is_lf (after_first is_lf unread))
+        let dot : ends_block offset true (raw_line unread) ≡ true = subst (λ (b : Bool). ends_block offset b (raw_line unread) ≡ true) e dot in
+        let there : place' ≡ offset + length (raw_line unread) + 1 = omega (arith, s.total) in
+        rw s.split (rw there (cut_block_ended takes line start offset text (raw_line unread) (slice_split is_lf (after_first is_lf unread))
         (split_cons (after_first is_lf unread)) ∙ rw dot refl))
     go false e =
         let s = unended_splits unread e in
-        let there : place' ≡ place + length (raw_line unread) =
-        rw s.raw (let at' : place' + 0 ≡ place + length unread = rw (sym (ap length s.after)) at in omega arith) in
-        let dot : ends_block place false (raw_line unread) ≡ true = subst (λ (b : Bool). ends_block place b (raw_line unread) ≡ true) e dot in
-        rw s.split (cut_block_last takes line start place text (raw_line unread)
+        let there : place' ≡ offset + length (raw_line unread) =
+        rw s.raw (let at' : place' + 0 ≡ offset + length unread = rw (sym (ap length s.after)) at in omega arith) in
+        let dot : ends_block offset false (raw_line unread) ≡ true = subst (λ (b : Bool). ends_block offset b (raw_line unread) ≡ true) e dot in
+        rw s.split (cut_block_last takes line start offset text (raw_line unread)
         ∙ rw dot (ap (λ x. after_block line text x) (rw s.after (sym (cut_nothing takes place' (omega arith))))))

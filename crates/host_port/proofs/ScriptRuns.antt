@@ -83,64 +83,64 @@ utf8_back raw rest u =
 
 -- ---- a run is steps of the script
 
-text_is : (place : ℕ) (raw : List ℕ) → IsUtf8 raw → text_at place raw ≡ Ok raw
-text_is place raw u = grind (arith, common_steps, utf8_valid_len-IsUtf8 raw u)
+text_is : (offset : ℕ) (raw : List ℕ) → IsUtf8 raw → text_at offset raw ≡ Ok raw
+text_is offset raw u = grind (arith, common_steps, utf8_valid_len-IsUtf8 raw u)
 
-adds_rest : (place : ℕ) (text new : Result (List ℕ) LineFault) (raw rest : List ℕ) → AddsRun text (raw ++ 10 ∷ rest) new
-    → AddsRun (text_with place text raw) rest new
-adds_rest place (Err e) new raw rest h = h
-adds_rest place (Ok text) new raw rest h =
-    rw (text_is place raw (utf8_front raw rest h.0))
+adds_rest : (offset : ℕ) (text new : Result (List ℕ) LineFault) (raw rest : List ℕ) → AddsRun text (raw ++ 10 ∷ rest) new
+    → AddsRun (text_with offset text raw) rest new
+adds_rest offset (Err e) new raw rest h = h
+adds_rest offset (Ok text) new raw rest h =
+    rw (text_is offset raw (utf8_front raw rest h.0))
     (utf8_back raw rest h.0, h.1 ∙ ap (λ (xs : List ℕ). Ok xs) (sym (append_assoc (text ++ raw) (10 ∷ []) rest ∙ append_assoc text raw (10 ∷ rest))))
 
-plain_line : (start place : ℕ) (text : Result (List ℕ) LineFault) (raw : List ℕ) → IsPlain raw → place + length raw + 1 ≤ start + block_limit
-    → place + length raw + 1 ≤ 2 ^ 40
-    → block_line start place true text raw ≡ Ok (text_with place text raw)
-plain_line start place text raw is near within =
-    let l : nat_lt block_limit (past_line place true raw - start) ≡ false = le-ltb _ _ (omega arith) in
-    let i : nat_le input_limit (place + length raw) ≡ false = false_from_ne_true (nat_le input_limit (place + length raw)) (λ e. grind arith) in
+plain_line : (start offset : ℕ) (text : Result (List ℕ) LineFault) (raw : List ℕ) → IsPlain raw → offset + length raw + 1 ≤ start + block_limit
+    → offset + length raw + 1 ≤ 2 ^ 40
+    → block_line start offset true text raw ≡ Ok (text_with offset text raw)
+plain_line start offset text raw is near within =
+    let l : nat_lt block_limit (past_line offset true raw - start) ≡ false = le-ltb _ _ (omega arith) in
+    let i : nat_le input_limit (offset + length raw) ≡ false = false_from_ne_true (nat_le input_limit (offset + length raw)) (λ e. grind arith) in
     rw (l, i, is.whole) refl
 
 adds_none : (text new : Result (List ℕ) LineFault) → AddsRun text [] new → new ≡ text
 adds_none (Err e) new h = h
 adds_none (Ok text) new h = h.1 ∙ ap (λ (xs : List ℕ). Ok xs) (append-nil text)
 
-cut_run : (takes : List ℕ → Bool) (line : List ℕ) (start place : ℕ) (text new : Result (List ℕ) LineFault) (raws : List (List ℕ)) (rest : List ℕ)
+cut_run : (takes : List ℕ → Bool) (line : List ℕ) (start offset : ℕ) (text new : Result (List ℕ) LineFault) (raws : List (List ℕ)) (rest : List ℕ)
     → All IsPlain raws
-    → place + length (with_feeds raws) ≤ start + block_limit → place + length (with_feeds raws) ≤ 2 ^ 40 → AddsRun text (with_feeds raws) new
-    → cut_block takes line start place text (slice_split is_lf (with_feeds raws ++ rest)) ≡ cut_block takes line start
-    (place + length (with_feeds raws)) new (slice_split is_lf rest)
-cut_run takes line start place text new [] rest plain near within adds =
-    let none : place + 0 ≡ place = omega arith in
+    → offset + length (with_feeds raws) ≤ start + block_limit → offset + length (with_feeds raws) ≤ 2 ^ 40 → AddsRun text (with_feeds raws) new
+    → cut_block takes line start offset text (slice_split is_lf (with_feeds raws ++ rest)) ≡ cut_block takes line start
+    (offset + length (with_feeds raws)) new (slice_split is_lf rest)
+cut_run takes line start offset text new [] rest plain near within adds =
+    let none : offset + 0 ≡ offset = omega arith in
     rw (adds_none text new adds, none) refl
-cut_run takes line start place text new (raw ∷ raws) rest plain near within adds =
+cut_run takes line start offset text new (raw ∷ raws) rest plain near within adds =
     let is = All-head IsPlain raw raws plain in
     let size : length (raw ++ 10 ∷ with_feeds raws) ≡ length raw + 1 + length (with_feeds raws) = rw length-append (omega arith) in
     let parts : slice_split is_lf ((raw ++ 10 ∷ with_feeds raws) ++ rest) ≡ raw ∷ slice_split is_lf (with_feeds raws ++ rest) =
     ap (λ (xs : List ℕ). slice_split is_lf xs) (append_assoc raw (10 ∷ with_feeds raws) rest)
     ∙ slice_split_at is_lf raw 10 (with_feeds raws ++ rest) is.no_feed refl in
-    let no_end : ends_block place true raw ≡ false = rw (is.whole, is.no_end) refl in
-    let goes : block_line start place true text raw ≡ Ok (text_with place text raw) = plain_line start place text raw is (omega arith) (omega arith) in
-    rw parts (cut_block_ended takes line start place text raw (slice_split is_lf (with_feeds raws ++ rest)) (split_cons (with_feeds raws ++ rest))
+    let no_end : ends_block offset true raw ≡ false = rw (is.whole, is.no_end) refl in
+    let goes : block_line start offset true text raw ≡ Ok (text_with offset text raw) = plain_line start offset text raw is (omega arith) (omega arith) in
+    rw parts (cut_block_ended takes line start offset text raw (slice_split is_lf (with_feeds raws ++ rest)) (split_cons (with_feeds raws ++ rest))
     ∙ (rw (no_end, goes)
-    (cut_run takes line start (place + length raw + 1) (text_with place text raw) new raws rest (All-tail IsPlain raw raws plain) (omega arith)
-    (omega arith) (adds_rest place text new raw (with_feeds raws) adds)
+    (cut_run takes line start (offset + length raw + 1) (text_with offset text raw) new raws rest (All-tail IsPlain raw raws plain) (omega arith)
+    (omega arith) (adds_rest offset text new raw (with_feeds raws) adds)
     ∙ ap (λ (k : ℕ). cut_block takes line start k new (slice_split is_lf rest)) (behind size))))
   where
     behind : length (raw ++ 10 ∷ with_feeds raws) ≡ length raw + 1 + length (with_feeds raws)
-        → place + length raw + 1 + length (with_feeds raws) ≡ place + length (raw ++ 10 ∷ with_feeds raws)
+        → offset + length raw + 1 + length (with_feeds raws) ≡ offset + length (raw ++ 10 ∷ with_feeds raws)
     behind size = omega arith
 
-pub run_goes : (takes : List ℕ → Bool) (line : List ℕ) (start place place' n : ℕ) (old new : Result (List ℕ) LineFault) (pending pending' left : List ℕ)
+pub run_goes : (takes : List ℕ → Bool) (line : List ℕ) (start offset place' n : ℕ) (old new : Result (List ℕ) LineFault) (pending pending' left : List ℕ)
     → n ≤ length pending → ArePlain (take n pending) → AddsRun old (take n pending) new
-    → place + n ≤ start + block_limit → place + length pending ≤ 2 ^ 40 → pending' ≡ drop n pending → place' ≡ place + n
-    → cut_block takes line start place old (slice_split is_lf (pending ++ left)) ≡ cut_block takes line start place' new (slice_split is_lf (pending' ++ left))
-run_goes takes line start place place' n old new pending pending' left h plain adds near within moved there =
+    → offset + n ≤ start + block_limit → offset + length pending ≤ 2 ^ 40 → pending' ≡ drop n pending → place' ≡ offset + n
+    → cut_block takes line start offset old (slice_split is_lf (pending ++ left)) ≡ cut_block takes line start place' new (slice_split is_lf (pending' ++ left))
+run_goes takes line start offset place' n old new pending pending' left h plain adds near within moved there =
     let parts : pending ++ left ≡ with_feeds plain.raws ++ (pending' ++ left) = rw moved
     (ap (λ (xs : List ℕ). xs ++ left) (sym (take-append-drop n pending))
     ∙ (append_assoc (take n pending) (drop n pending) left ∙ ap (λ (xs : List ℕ). xs ++ (drop n pending ++ left)) plain.are)) in
     let size : length (with_feeds plain.raws) ≡ n = ap length (sym plain.are) ∙ length-take-le n pending h in
-    let at : place + length (with_feeds plain.raws) ≡ place' = omega arith in
-    rw parts (cut_run takes line start place old new plain.raws (pending' ++ left) plain.plain (omega arith) (omega arith)
+    let at : offset + length (with_feeds plain.raws) ≡ place' = omega arith in
+    rw parts (cut_run takes line start offset old new plain.raws (pending' ++ left) plain.plain (omega arith) (omega arith)
     (subst (λ (xs : List ℕ). AddsRun old xs new) plain.are adds)
     ∙ ap (λ (k : ℕ). cut_block takes line start k new (slice_split is_lf (pending' ++ left))) at)

@@ -34,9 +34,9 @@ GotLine (Ok End) text read = read ≡ Ok None
 GotLine (Err fault) text read = IsFault fault read
 
 -- the reader has gone after the next line feed, or to the end
-pub record PastLine (unread_old unread_new : List ℕ) (place_old place_new : ℕ) : Type 0 where
+pub record PastLine (unread_old unread_new : List ℕ) (offset_old offset_new : ℕ) : Type 0 where
   pub unread : unread_new ≡ after_first is_lf unread_old
-  pub place : place_new + length unread_new ≡ place_old + length unread_old
+  pub offset : offset_new + length unread_new ≡ offset_old + length unread_old
 
 -- the fault ends the script, or says nothing of the input
 abbrev pub EndsScript : LineFault → Script → Type 0
@@ -68,23 +68,23 @@ FarFault start e = ((e ≡ BlockTooLong (start + block_limit)) × (start + block
 
 -- the fault of a line of a block, by what its bytes stopped at
 abbrev pub BlockFault : Stop → ℕ → ℕ → Result (List ℕ) LineFault → List ℕ → LineFault → Type 0
-BlockFault Far start place text raw e = FarFault start e
-BlockFault Feed start place text raw e = (ends_block place true raw ≡ false) × (block_line start place true text raw ≡ Err e)
-BlockFault Close start place text raw e = (ends_block place false raw ≡ false) × ((block_line start place false text raw ≡ Err e)
-    ⊎ ((e ≡ UnendedBlock (place + length raw)) × ((more : Result (List ℕ) LineFault) × (block_line start place false text raw ≡ Ok more))))
+BlockFault Far start offset text raw e = FarFault start e
+BlockFault Feed start offset text raw e = (ends_block offset true raw ≡ false) × (block_line start offset true text raw ≡ Err e)
+BlockFault Close start offset text raw e = (ends_block offset false raw ≡ false) × ((block_line start offset false text raw ≡ Err e)
+    ⊎ ((e ≡ UnendedBlock (offset + length raw)) × ((more : Result (List ℕ) LineFault) × (block_line start offset false text raw ≡ Ok more))))
 
 -- what a line of a block with the bytes raw is: its end, a line more, or a fault
 abbrev pub BlockLine : Stop → ℕ → ℕ → Result (List ℕ) LineFault → Result (List ℕ) LineFault → List ℕ → Result Bool LineFault → Type 0
-BlockLine stop start place old new raw (Ok true) = (ends_block place (is_feed stop) raw ≡ true) × (new ≡ old) × (stop ≡ Far → ⊥)
-BlockLine stop start place old new raw (Ok false) =
-    (ends_block place (is_feed stop) raw ≡ false) × (block_line start place (is_feed stop) old raw ≡ Ok new) × (stop ≡ Feed)
-BlockLine stop start place old new raw (Err Memory) = Unit {0}
-BlockLine stop start place old new raw (Err e) = BlockFault stop start place old raw e
+BlockLine stop start offset old new raw (Ok true) = (ends_block offset (is_feed stop) raw ≡ true) × (new ≡ old) × (stop ≡ Far → ⊥)
+BlockLine stop start offset old new raw (Ok false) =
+    (ends_block offset (is_feed stop) raw ≡ false) × (block_line start offset (is_feed stop) old raw ≡ Ok new) × (stop ≡ Feed)
+BlockLine stop start offset old new raw (Err Memory) = Unit {0}
+BlockLine stop start offset old new raw (Err e) = BlockFault stop start offset old raw e
 
 -- what contracts see of a reader: the bytes at hand, the offset of the first of them, the text and whether a call failed
 pub record Reader : Type 0 where
   pub pending : List ℕ
-  pub place : ℕ
+  pub offset : ℕ
   pub text : List ℕ
   pub failed : Bool
 

@@ -130,7 +130,7 @@ impl Host for FuseHost {
     }
 
     fn write_at(&mut self, at: u64, bytes: &[u8]) -> Result<(), Failed>
-        requires place { IsTrue (fuse_told self.old).tells → at ≤ length (disk_now (fuse_told self.old)).now }
+        requires offset { IsTrue (fuse_told self.old).tells → at ≤ length (disk_now (fuse_told self.old)).now }
         requires limit { at + length bytes.now ≤ 2 ^ 40 }
         ensures course { GoesOn (fuse_told self.old) (fuse_told self.new) }
         ensures said { KeepsSaid (fuse_told self.old) (fuse_told self.new) }

@@ -61,7 +61,7 @@ pub trait Host {
     /// Writes the bytes from the offset `at` on, over what is there and past the end. Until a sync succeeds, a crash may
     /// leave any bytes in the range.
     fn write_at(&mut self, at: u64, bytes: &[u8]) -> Result<(), Failed>
-        requires place { IsTrue (told self.old).tells → at ≤ length (disk_now (told self.old)).now }
+        requires offset { IsTrue (told self.old).tells → at ≤ length (disk_now (told self.old)).now }
         requires limit { at + length bytes.now ≤ 2 ^ 40 }
         ensures course { GoesOn (told self.old) (told self.new) }
         ensures said { KeepsSaid (told self.old) (told self.new) }

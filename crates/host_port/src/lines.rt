@@ -78,13 +78,13 @@ impl Model for Lines {
 
     ghost Value = { Reader };
 
-    ghost view = { λ l. record { pending = l.unread.pending; place = l.unread.place; text = string_bytes l.text; failed = l.failed } };
+    ghost view = { λ l. record { pending = l.unread.pending; offset = l.unread.offset; text = string_bytes l.text; failed = l.failed } };
 }
 
 impl Lines {
     /// A reader that stands at the input's first byte.
     pub fn new(alloc: Global) -> Result<Lines, AllocError>
-        ensures start { IfOk result (λ lines. (lines.pending ≡ []) × (lines.place ≡ 0)) }
+        ensures start { IfOk result (λ lines. (lines.pending ≡ []) × (lines.offset ≡ 0)) }
         ensures fresh { IfOk result (λ lines. lines.failed ≡ false) }
     {
         Ok(Lines {
@@ -107,13 +107,13 @@ impl Lines {
         requires fresh { self.old.failed ≡ false }
         // It is the line that stands there, or the end, or the fault; the length is judged before the text.
         ensures line { IsTrue (H.told host.old).tells →
-            GotLine result self.new.text (next_line_of self.old.place (self.old.pending ++ (H.told host.old).left)) }
+            GotLine result self.new.text (next_line_of self.old.offset (self.old.pending ++ (H.told host.old).left)) }
         ensures past { IsTrue (H.told host.old).tells → OnOk result (PastLine
-            (self.old.pending ++ (H.told host.old).left) (self.new.pending ++ (H.told host.new).left) self.old.place self.new.place) }
+            (self.old.pending ++ (H.told host.old).left) (self.new.pending ++ (H.told host.new).left) self.old.offset self.new.offset) }
         ensures end { IsTrue (H.told host.old).tells → IfOk result (λ got. got ≡ Got.End → (H.told host.new).left ≡ []) }
         ensures short { IfOk result (λ got. got ≡ Got.Line → length self.new.text ≤ line_limit) }
-        ensures advances { IfOk result (λ got. got ≡ Got.Line → self.old.place < self.new.place) }
-        ensures low { self.new.place ≤ 2 ^ 40 }
+        ensures advances { IfOk result (λ got. got ≡ Got.Line → self.old.offset < self.new.offset) }
+        ensures low { self.new.offset ≤ 2 ^ 40 }
         ensures failed { IsTrue self.new.failed ↔ IsErr result }
         ensures course { GoesOn (H.told host.old) (H.told host.new) }
         ensures disk { KeepsDisk (H.told host.old) (H.told host.new) }
@@ -131,12 +131,12 @@ impl Lines {
         requires fresh { self.old.failed ≡ false }
         // Whatever line stands before the block, the script goes on with that line and this block, or ends by the fault.
         ensures block { IsTrue (H.told host.old).tells → (takes : List ℕ → Bool) (line : List ℕ) → GotBlock result self.new.text line
-            (cut_block takes line self.old.place self.old.place (Ok []) (slice_split is_lf (self.old.pending ++ (H.told host.old).left)))
-            (script_from takes self.new.place (self.new.pending ++ (H.told host.new).left)) }
+            (cut_block takes line self.old.offset self.old.offset (Ok []) (slice_split is_lf (self.old.pending ++ (H.told host.old).left)))
+            (script_from takes self.new.offset (self.new.pending ++ (H.told host.new).left)) }
         ensures short { OnOk result (length self.new.text ≤ block_limit) }
         ensures failed { IsTrue self.new.failed ↔ IsErr result }
-        ensures later { self.old.place ≤ self.new.place }
-        ensures low { self.new.place ≤ 2 ^ 40 }
+        ensures later { self.old.offset ≤ self.new.offset }
+        ensures low { self.new.offset ≤ 2 ^ 40 }
         ensures course { GoesOn (H.told host.old) (H.told host.new) }
         ensures disk { KeepsDisk (H.told host.old) (H.told host.new) }
         ensures said { KeepsSaid (H.told host.old) (H.told host.new) }

@@ -193,7 +193,7 @@ impl Host for TalkHost {
     }
 
     fn write_at(&mut self, at: u64, bytes: &[u8]) -> Result<(), Failed>
-        requires place { IsTrue (talk_told self.old).tells → at ≤ length (disk_now (talk_told self.old)).now }
+        requires offset { IsTrue (talk_told self.old).tells → at ≤ length (disk_now (talk_told self.old)).now }
         requires limit { at + length bytes.now ≤ 2 ^ 40 }
         ensures course { GoesOn (talk_told self.old) (talk_told self.new) }
         ensures said { KeepsSaid (talk_told self.old) (talk_told self.new) }

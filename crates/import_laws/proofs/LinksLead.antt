@@ -25,7 +25,7 @@ use Rattle.model_documents.specs.declared.doc.DocRefs.{DocRefs}
 use Rattle.model_documents.specs.declared.doc.DocRow.{DocRow}
 use Rattle.model_documents.specs.Fits as fits
 use Rattle.model_documents.specs.Fits.{DocumentFits}
-use Rattle.model_documents.specs.Merged.{targets_at}
+use Rattle.model_documents.specs.Completed.{targets_at}
 use Rattle.import_laws.specs.After.{rows_from}
 use Rattle.import_laws.specs.Laws.{ids_differ}
 use Rattle.import_laws.specs.Links.{index_in, is_made, links_made, mirror_of, refs_at}

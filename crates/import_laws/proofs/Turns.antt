@@ -14,7 +14,7 @@ use Rattle.edit_steps.specs.Rows.{Rows}
 use Rattle.model_documents.specs.declared.doc.DocRefs.{DocRefs}
 use Rattle.model_documents.specs.declared.doc.DocRow.{DocRow}
 use Rattle.model_documents.specs.Fits.{numbers_differ}
-use Rattle.model_documents.specs.Merged.{targets_at}
+use Rattle.model_documents.specs.Completed.{targets_at}
 use Rattle.import_laws.specs.After.{refs_set, rows_from, targets_set}
 use Rattle.import_laws.specs.Links.{link_to, links_from, refs_made, targets_made}
 use Rattle.import_laws.specs.Names.{name_at}

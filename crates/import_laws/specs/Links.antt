@@ -8,7 +8,7 @@ use Rattle.model_state.specs.Typing.{opposite_of}
 use Rattle.edit_steps.specs.Rows.{link_step}
 use Rattle.model_documents.specs.declared.doc.DocRefs.{DocRefs}
 use Rattle.model_documents.specs.declared.doc.DocRow.{DocRow}
-use Rattle.model_documents.specs.Merged.{targets_at}
+use Rattle.model_documents.specs.Completed.{targets_at}
 use Rattle.import_laws.specs.Names.{name_at}
 use Rattle.import_laws.specs.News.{rank_of}
 

@@ -3,7 +3,7 @@ ghost use Rattle.import_laws.specs.Laws.{ImportsLead, NamesAreNew};
 
 /// The ids that the elements of a document get are as many as the elements. None of them is live and no two are the
 /// same, where the document gives no id that is live and none twice.
-pub fn law_of_names()
+pub fn law_of_new_names()
     ensures { NamesAreNew }
 {}
 

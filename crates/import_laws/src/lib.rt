@@ -4,4 +4,4 @@
 
 mod laws;
 
-pub use laws::{law_of_imports, law_of_names};
+pub use laws::{law_of_imports, law_of_new_names};

@@ -10,7 +10,8 @@ use Rattle.script_lang.specs.declared.command.Spec.{Spec}
 use Rattle.script_lang.specs.declared.command.Spec.TheVariants.{Number}
 use Rattle.script_lang.specs.declared.command.Command.{Command}
 use Rattle.script_lang.specs.Left.{Left}
-use Rattle.script_lang.specs.Words.{◌>>=◌, is_word, word_at, found_at, number_of, number_below, not_below, number_at, moment_at, name_at}
+use Rattle.script_lang.specs.Words.{◌>>=◌, word_at, found_at, number_of, number_below, not_below, number_at, moment_at, name_at}
+use Rattle.finite_maps.specs.Equal.{text_eq}
 use Rattle.script_lang.specs.Words.{index_or_end, index_or_end_at, optional_at, optional_number_at, rest_at, optional_rest_at, end_at}
 use Rattle.script_lang.specs.Command.{spec_of, spec_at, if_decoded, bytes_at, destination_from, destination_at}
 use Rattle.script_lang.specs.Spelling.{IsLine, IsWord}
@@ -107,7 +108,7 @@ pub destination_then : (f : Destination × Left → Result Command ℕ) → ((pl
 unfolding destination_at
 destination_then f exact =
     same_exact _ _ (λ left. in_order (word_at left) (λ first. destination_from first.0 first.1) f)
-    (word_then (λ first. destination_from first.0 first.1 >>= f) (λ first. place_from f exact first (is_word first (codes "/"))))
+    (word_then (λ first. destination_from first.0 first.1 >>= f) (λ first. place_from f exact first (text_eq first (codes "/"))))
 
 -- a reading that is one where nothing is left, and another where something is
 module _ (at one other : Left → Result Command ℕ) (ends : (column : ℕ) → at (left_at None column) ≡ one (left_at None column))

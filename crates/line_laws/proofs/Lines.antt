@@ -4,11 +4,12 @@ use Rattle.std.proofs.Common.{Some, Result, Ok, Err, arith, codes}
 use Rattle.std.specs.Prelude.{map}
 use Rattle.script_lang.specs.declared.command.Command.{Command}
 use Rattle.script_lang.specs.Left.{Left}
-use Rattle.script_lang.specs.Words.{◌>>=◌, is_word, word_at, found_at}
+use Rattle.script_lang.specs.Words.{◌>>=◌, word_at, found_at}
+use Rattle.finite_maps.specs.Equal.{text_eq}
 use Rattle.script_lang.specs.Command.{init_at, evolve_at, import_at, load_at, checkout_at, create_at, delete_at, move_at, set_at, unset_at, add_at}
 use Rattle.script_lang.specs.Command.{remove_at, shift_at, link_at, unlink_at, reorder_at, begin_at, end_line_at, undo_at, discard_at, tidy_at}
 use Rattle.script_lang.specs.Command.{apply_at, changes_at, show_at, cat_at, validate_at, commit_at, signed_at, branch_at, tag_at, log_at, package_at}
-use Rattle.script_lang.specs.Command.{update_at, merge_at, revert_at, drop_at, upgrade_at, chosen, commands_by_word, feature_commands, work_commands}
+use Rattle.script_lang.specs.Command.{update_at, merge_at, revert_at, drop_at, upgrade_at, command_of_word, commands_by_word, feature_commands, work_commands}
 use Rattle.script_lang.specs.Command.{version_commands, command_of}
 use Rattle.script_lang.specs.Spelling.{IsLine, Spells}
 use Rattle.script_lang.proofs.LineLemmas.{line_read, line_spelled}
@@ -76,25 +77,25 @@ all_rows =
 -- the reading that a word chooses, if it is some command's
 abbrev reading_of : List (List ℕ × (Left → Result Command ℕ)) → List ℕ → Option (Left → Result Command ℕ)
 reading_of [] word = None
-reading_of (row ∷ rows) word = cond (is_word word row.0) (Some row.1) (reading_of rows word)
+reading_of (row ∷ rows) word = cond (text_eq word row.0) (Some row.1) (reading_of rows word)
 
 -- the reading of a word's command, of what stands after the word
 abbrev follow : (Left → Result Command ℕ) × Left → Result Command ℕ
 follow command = command.0 command.1
 
 chosen_is : (rows : List (List ℕ × (Left → Result Command ℕ))) (word : List ℕ) (left : Left)
-    → chosen rows word left ≡ (found_at 1 (reading_of rows word) left >>= follow)
+    → command_of_word rows word left ≡ (found_at 1 (reading_of rows word) left >>= follow)
 chosen_is [] word left = refl
-chosen_is (row ∷ rows) word left = by (is_word word row.0) (chosen_is rows word left)
+chosen_is (row ∷ rows) word left = by (text_eq word row.0) (chosen_is rows word left)
   where
-    by : (b : Bool) → chosen rows word left ≡ (found_at 1 (reading_of rows word) left >>= follow)
-        → cond b (row.1 left) (chosen rows word left) ≡ (found_at 1 (cond b (Some row.1) (reading_of rows word)) left >>= follow)
+    by : (b : Bool) → command_of_word rows word left ≡ (found_at 1 (reading_of rows word) left >>= follow)
+        → cond b (row.1 left) (command_of_word rows word left) ≡ (found_at 1 (cond b (Some row.1) (reading_of rows word)) left >>= follow)
     by true rest = refl
     by false rest = rest
 
 chosen_exact : (rows : List Row) (word : List ℕ) (read : Left → Result Command ℕ) → reading_of (map plain rows) word ≡ Some read → Exact read
 chosen_exact [] word read e = cc
-chosen_exact (row ∷ rows) word read e = by (is_word word row.word) (chosen_exact rows word read) e
+chosen_exact (row ∷ rows) word read e = by (text_eq word row.word) (chosen_exact rows word read) e
   where
     by : (b : Bool) → (reading_of (map plain rows) word ≡ Some read → Exact read) → cond b (Some row.read) (reading_of (map plain rows) word) ≡ Some read
         → Exact read
@@ -112,7 +113,7 @@ line_is : (line : List ℕ) → command_of line ≡ line_reading (left_at (Some 
 unfolding command_of feature_commands work_commands version_commands
 line_is line = by (word_at (left_at (Some line) 1))
   where
-    by : (read : Result (List ℕ × Left) ℕ) → (read >>= λ first. chosen commands_by_word first.0 first.1)
+    by : (read : Result (List ℕ × Left) ℕ) → (read >>= λ first. command_of_word commands_by_word first.0 first.1)
         ≡ (read >>= λ word. (found_at 1 (reading_of (map plain all_rows) word.0) word.1 >>= follow))
     by (Ok first) = chosen_is commands_by_word first.0 first.1
     by (Err column) = refl

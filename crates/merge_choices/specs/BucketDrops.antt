@@ -1,7 +1,7 @@
 -- What the side chosen for one bucket drops.
 use Rattle.std.specs.Prelude.{ℕ, Bool, false}
 use Rattle.footprint.specs.declared.bucket.Bucket.{Bucket}
-use Rattle.merge_laws.specs.Parts.{is_in}
+use Rattle.merge_laws.specs.Grouping.{is_in}
 use Rattle.merge_laws.specs.declared.side.Side.{Side}
 use Rattle.merge_laws.specs.declared.side.Side.TheVariants.{Mine, Theirs}
 

@@ -1,6 +1,6 @@
 //! Which operations the choices drop, as flags for their places.
 ghost use Rattle.std.specs.Prelude.{◌≡◌, length, IfOk};
-ghost use Rattle.merge_laws.specs.Parts.{is_in};
+ghost use Rattle.merge_laws.specs.Grouping.{is_in};
 ghost use Rattle.merge_laws.specs.Merge.{drops_theirs, drops_mine};
 ghost use Rattle.merge_choices.specs.Flags.{AreFlags, Flagged};
 ghost use Rattle.merge_choices.specs.BucketDrops.{bucket_theirs, bucket_mine};

@@ -7,7 +7,7 @@ use Rattle.ecore_meta.specs.Meta.{Meta}
 use Rattle.model_state.specs.declared.operation.Operation.{Operation}
 use Rattle.footprint.specs.declared.bucket.Bucket.{Bucket}
 use Rattle.footprint.specs.Buckets.{buckets}
-use Rattle.merge_laws.specs.Parts.{is_in, SameTheirs, SameMine, shares}
+use Rattle.merge_laws.specs.Grouping.{is_in, SameTheirs, SameMine, shares}
 use Rattle.merge_laws.specs.Classes.{AllMixed, AreClasses}
 use Rattle.merge_laws.specs.Order.{Above, Rising, AllRising, firsts, InOrder}
 use Rattle.merge_laws.specs.BucketLaws.{BucketsLeaveNoChoice}

@@ -7,7 +7,7 @@ use Rattle.model_laws.proofs.Exchange.{or_cases}
 use Rattle.model_state.specs.declared.operation.Operation.{Operation}
 use Rattle.footprint.specs.Interference.{interferes, NoPair}
 use Rattle.footprint.specs.declared.bucket.Bucket.{Bucket}
-use Rattle.merge_laws.specs.Parts.{is_in, SameTheirs, SameMine, shares, Parts}
+use Rattle.merge_laws.specs.Grouping.{is_in, SameTheirs, SameMine, shares, GroupInterfering}
 use Rattle.merge_laws.specs.declared.side.Side.{Side}
 use Rattle.merge_laws.specs.declared.side.Side.TheVariants.{Mine, Theirs}
 use Rattle.merge_laws.specs.Merge.{drops_theirs, drops_mine, dropped, kept}
@@ -42,7 +42,7 @@ one_dropped (b ∷ bs) (Theirs ∷ sides) i k is both h g =
     (λ here. true_false _ (and_second (is_in i b.theirs) (is_in k b.mine) here) (or_first (is_in k b.mine) (drops_mine bs sides k) g))
     (λ later. one_dropped bs sides i k (suc_same (length sides) (length bs) is) later h (or_second (is_in k b.mine) (drops_mine bs sides k) g))
 
-module _ (meta : Meta) (theirs mine : List Operation) (bs : List Bucket) (parts : Parts meta theirs mine bs) (sides : List Side)
+module _ (meta : Meta) (theirs mine : List Operation) (bs : List Bucket) (parts : GroupInterfering meta theirs mine bs) (sides : List Side)
     (is : length sides ≡ length bs) where
   pub theirs_apart : NoPair meta (kept (drops_theirs bs sides) theirs) (dropped (drops_theirs bs sides) theirs)
   theirs_apart = kept_dropped meta (drops_theirs bs sides) (drops_theirs bs sides) theirs theirs (λ i k a b at there h g.

@@ -10,8 +10,8 @@ use Rattle.model_laws.proofs.Exchange.{or_cases}
 use Rattle.ecore_meta.specs.Meta.{Meta}
 use Rattle.model_state.specs.declared.operation.Operation.{Operation}
 use Rattle.footprint.specs.declared.bucket.Bucket.{Bucket}
-use Rattle.footprint.specs.Buckets.{labels, places, mixed, rows, buckets}
-use Rattle.merge_laws.specs.Parts.{is_in, shares}
+use Rattle.footprint.specs.Buckets.{labels, places, mixed, buckets_below, buckets}
+use Rattle.merge_laws.specs.Grouping.{is_in, shares}
 use Rattle.merge_laws.specs.Classes.{AllMixed, AreClasses}
 use Rattle.merge_laws.specs.BucketLaws.{BucketsAreClasses}
 use Rattle.merge_laws.proofs.Labels.{moved, labelled}
@@ -31,9 +31,9 @@ both_join : (bs cs : List Bucket) → AllMixed bs → AllMixed cs → AllMixed (
 both_join [] cs h g = g
 both_join (b ∷ bs) cs h g = (h.0, h.1, both_join bs cs h.2 g)
 
-rows_both : (ts ms : List ℕ) (n : ℕ) → AllMixed (rows ts ms n)
+rows_both : (ts ms : List ℕ) (n : ℕ) → AllMixed (buckets_below ts ms n)
 rows_both ts ms zero = tt
-rows_both ts ms (suc n) = both_join (rows ts ms n) (mixed (places n ts) (places n ms)) (rows_both ts ms n) (mixed_both (places n ts) (places n ms))
+rows_both ts ms (suc n) = both_join (buckets_below ts ms n) (mixed (places n ts) (places n ms)) (rows_both ts ms n) (mixed_both (places n ts) (places n ms))
 
 mixed_back : (xs ys : List ℕ) (i k : ℕ) → shares (mixed xs ys) i k ≡ true → (is_in i xs ≡ true) × (is_in k ys ≡ true)
 mixed_back [] ys i k h = cc
@@ -50,11 +50,11 @@ pub label_back : (l : ℕ) (o : Option ℕ) → has_label l o ≡ true → o ≡
 label_back l None h = cc
 label_back l (Some m) h = ap Some (nat_equality.exact m l h)
 
-rows_back : (ts ms : List ℕ) (n i k : ℕ) → shares (rows ts ms n) i k ≡ true → (l : ℕ) × (slice_get ts i ≡ Some l) × (slice_get ms k ≡ Some l)
+rows_back : (ts ms : List ℕ) (n i k : ℕ) → shares (buckets_below ts ms n) i k ≡ true → (l : ℕ) × (slice_get ts i ≡ Some l) × (slice_get ms k ≡ Some l)
 rows_back ts ms zero i k h = cc
 rows_back ts ms (suc n) i k h =
-    or_cases (shares (rows ts ms n) i k) (shares (mixed (places n ts) (places n ms)) i k)
-    (sym (list_any-append (λ b. is_in i b.theirs && is_in k b.mine) (rows ts ms n) (mixed (places n ts) (places n ms))) ∙ h)
+    or_cases (shares (buckets_below ts ms n) i k) (shares (mixed (places n ts) (places n ms)) i k)
+    (sym (list_any-append (λ b. is_in i b.theirs && is_in k b.mine) (buckets_below ts ms n) (mixed (places n ts) (places n ms))) ∙ h)
     (λ before. rows_back ts ms n i k before)
     (λ here.
     let r = mixed_back (places n ts) (places n ms) i k here in

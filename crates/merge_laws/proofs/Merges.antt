@@ -9,7 +9,7 @@ use Rattle.model_state.specs.Packages.{fold_package, rev_package}
 use Rattle.footprint.proofs.Runs.{Leads, one_end, cut, join, package_undone, packages_keep, packages_exchange, packages_side_by_side}
 use Rattle.footprint.specs.declared.bucket.Bucket.{Bucket}
 use Rattle.footprint.specs.Buckets.{buckets}
-use Rattle.merge_laws.specs.Parts.{Parts}
+use Rattle.merge_laws.specs.Grouping.{GroupInterfering}
 use Rattle.merge_laws.proofs.Rows.{buckets_are_parts}
 use Rattle.merge_laws.specs.declared.side.Side.{Side}
 use Rattle.merge_laws.specs.Merge.{drops_theirs, drops_mine, dropped, kept, merged, update_list, merge_list}
@@ -20,7 +20,7 @@ use Rattle.merge_laws.proofs.Gather.{gather}
 use Rattle.merge_laws.proofs.Choices.{theirs_apart, mine_apart, kept_apart}
 
 module _ (meta : Meta) (sound : Sound meta) (base head work : State) (good : Good meta base) (theirs mine : List Operation)
-    (after_theirs : Leads meta base theirs head) (after_mine : Leads meta base mine work) (bs : List Bucket) (parts : Parts meta theirs mine bs)
+    (after_theirs : Leads meta base theirs head) (after_mine : Leads meta base mine work) (bs : List Bucket) (parts : GroupInterfering meta theirs mine bs)
     (sides : List Side) (is : length sides ≡ length bs) where
   keep_t : List Operation
   keep_t = kept (drops_theirs bs sides) theirs

@@ -8,8 +8,8 @@ use Rattle.model_laws.proofs.Exchange.{or_cases}
 use Rattle.ecore_meta.specs.Meta.{Meta}
 use Rattle.model_state.specs.declared.operation.Operation.{Operation}
 use Rattle.footprint.specs.declared.bucket.Bucket.{Bucket}
-use Rattle.footprint.specs.Buckets.{labels, places, mixed, rows, buckets}
-use Rattle.merge_laws.specs.Parts.{is_in}
+use Rattle.footprint.specs.Buckets.{labels, places, mixed, buckets_below, buckets}
+use Rattle.merge_laws.specs.Grouping.{is_in}
 use Rattle.merge_laws.specs.Order.{Above, Rising, AllRising, firsts, InOrder}
 use Rattle.merge_laws.specs.BucketLaws.{BucketsInOrder}
 use Rattle.merge_laws.proofs.Labels.{some_same, labelled}
@@ -70,10 +70,10 @@ all_join : (bs cs : List Bucket) → AllRising bs → AllRising cs → AllRising
 all_join [] cs h g = g
 all_join (b ∷ bs) cs h g = (h.0, h.1, all_join bs cs h.2 g)
 
-rows_rising : (ts ms : List ℕ) (n : ℕ) → AllRising (rows ts ms n)
+rows_rising : (ts ms : List ℕ) (n : ℕ) → AllRising (buckets_below ts ms n)
 rows_rising ts ms zero = tt
 rows_rising ts ms (suc n) =
-    all_join (rows ts ms n) (mixed (places n ts) (places n ms)) (rows_rising ts ms n)
+    all_join (buckets_below ts ms n) (mixed (places n ts) (places n ms)) (rows_rising ts ms n)
     (mixed_rising (places n ts) (places n ms) (places_rising n ts) (places_rising n ms))
 
 -- ---- their order
@@ -141,13 +141,13 @@ append_none : (xs ys : List ℕ) → ys ≡ [] → xs ++ ys ≡ xs
 append_none [] ys h = h
 append_none (x ∷ xs) ys h = ap (λ l. x ∷ l) (append_none xs ys h)
 
-rows_order : (ts ms : List ℕ) → Own ts → (n : ℕ) → Rising (firsts (rows ts ms n)) × Below n (firsts (rows ts ms n))
+rows_order : (ts ms : List ℕ) → Own ts → (n : ℕ) → Rising (firsts (buckets_below ts ms n)) × Below n (firsts (buckets_below ts ms n))
 unfolding Below
 rows_order ts ms own zero = (tt, tt)
 rows_order ts ms own (suc n) =
     let r = rows_order ts ms own n in
-    let f = firsts (rows ts ms n) in
-    let cut = firsts_join (rows ts ms n) (mixed (places n ts) (places n ms)) in
+    let f = firsts (buckets_below ts ms n) in
+    let cut = firsts_join (buckets_below ts ms n) (mixed (places n ts) (places n ms)) in
     mixed_first ts own n (places n ts) (places n ms) refl
     (λ none. subst (λ l. Rising l × Below (suc n) l) (sym (cut ∙ append_none f (firsts (mixed (places n ts) (places n ms))) none)) (r.0, below_more n f r.1))
     (λ one. subst (λ l. Rising l × Below (suc n) l) (sym (cut ∙ ap (λ l. f ++ l) one)) (rising_last n f r.0 r.1, below_last n f r.1))

@@ -9,9 +9,9 @@ use Rattle.finite_maps.proofs.EqualLaws.{and_both, nat_equality}
 use Rattle.ecore_meta.specs.Meta.{Meta}
 use Rattle.model_state.specs.declared.operation.Operation.{Operation}
 use Rattle.footprint.specs.declared.bucket.Bucket.{Bucket}
-use Rattle.footprint.specs.Buckets.{labels, places, mixed, rows, buckets}
-use Rattle.merge_laws.specs.Parts.{is_in, SameTheirs, SameMine, shares, Parts}
-use Rattle.merge_laws.specs.BucketLaws.{BucketsAreParts}
+use Rattle.footprint.specs.Buckets.{labels, places, mixed, buckets_below, buckets}
+use Rattle.merge_laws.specs.Grouping.{is_in, SameTheirs, SameMine, shares, GroupInterfering}
+use Rattle.merge_laws.specs.BucketLaws.{BucketsGroupInterfering}
 use Rattle.merge_laws.proofs.Labels.{labelled, labels_close}
 
 -- ---- places in lists
@@ -92,26 +92,26 @@ mixed_shares [] ys i k h g = cc
 mixed_shares (x ∷ xs) [] i k h g = cc
 mixed_shares (x ∷ xs) (y ∷ ys) i k h g = ap (λ b. b || false) (and_both (is_in i (x ∷ xs)) (is_in k (y ∷ ys)) h g)
 
-pub rows_theirs : (ts ms : List ℕ) (n i j : ℕ) → slice_get ts i ≡ slice_get ts j → SameTheirs (rows ts ms n) i j
+pub rows_theirs : (ts ms : List ℕ) (n i j : ℕ) → slice_get ts i ≡ slice_get ts j → SameTheirs (buckets_below ts ms n) i j
 rows_theirs ts ms zero i j h = tt
-rows_theirs ts ms (suc n) i j h = theirs_join (rows ts ms n) (mixed (places n ts) (places n ms)) i j (rows_theirs ts ms n i j h)
+rows_theirs ts ms (suc n) i j h = theirs_join (buckets_below ts ms n) (mixed (places n ts) (places n ms)) i j (rows_theirs ts ms n i j h)
     (mixed_theirs (places n ts) (places n ms) i j (in_places n ts i ∙ ap (has_label n) h ∙ sym (in_places n ts j)))
 
-pub rows_mine : (ts ms : List ℕ) (n i j : ℕ) → slice_get ms i ≡ slice_get ms j → SameMine (rows ts ms n) i j
+pub rows_mine : (ts ms : List ℕ) (n i j : ℕ) → slice_get ms i ≡ slice_get ms j → SameMine (buckets_below ts ms n) i j
 rows_mine ts ms zero i j h = tt
-rows_mine ts ms (suc n) i j h = mine_join (rows ts ms n) (mixed (places n ts) (places n ms)) i j (rows_mine ts ms n i j h)
+rows_mine ts ms (suc n) i j h = mine_join (buckets_below ts ms n) (mixed (places n ts) (places n ms)) i j (rows_mine ts ms n i j h)
     (mixed_mine (places n ts) (places n ms) i j (in_places n ms i ∙ ap (has_label n) h ∙ sym (in_places n ms j)))
 
-pub rows_share : (ts ms : List ℕ) (n i k l : ℕ) → l < n → slice_get ts i ≡ Some l → slice_get ms k ≡ Some l → shares (rows ts ms n) i k ≡ true
+pub rows_share : (ts ms : List ℕ) (n i k l : ℕ) → l < n → slice_get ts i ≡ Some l → slice_get ms k ≡ Some l → shares (buckets_below ts ms n) i k ≡ true
 rows_share ts ms zero i k l low h g = absurd (omega (arith, low))
 rows_share ts ms (suc n) i k l low h g =
-    list_any-append (λ b. is_in i b.theirs && is_in k b.mine) (rows ts ms n) (mixed (places n ts) (places n ms))
-    ∙ elim (cases_lt l n) as (λ _. shares (rows ts ms n) i k || shares (mixed (places n ts) (places n ms)) i k ≡ true) [
-      | inl below ↦ or_left (shares (rows ts ms n) i k) (shares (mixed (places n ts) (places n ms)) i k) (rows_share ts ms n i k l below h g)
+    list_any-append (λ b. is_in i b.theirs && is_in k b.mine) (buckets_below ts ms n) (mixed (places n ts) (places n ms))
+    ∙ elim (cases_lt l n) as (λ _. shares (buckets_below ts ms n) i k || shares (mixed (places n ts) (places n ms)) i k ≡ true) [
+      | inl below ↦ or_left (shares (buckets_below ts ms n) i k) (shares (mixed (places n ts) (places n ms)) i k) (rows_share ts ms n i k l below h g)
       | inr above ↦
           let is : l ≡ n = omega (arith, low, above) in
           let own : nat_eq l n ≡ true = subst (λ x. nat_eq l x ≡ true) is (nat_equality.own l) in
-          or_right (shares (rows ts ms n) i k) (shares (mixed (places n ts) (places n ms)) i k)
+          or_right (shares (buckets_below ts ms n) i k) (shares (mixed (places n ts) (places n ms)) i k)
           (mixed_shares (places n ts) (places n ms) i k (in_places n ts i ∙ ap (has_label n) h ∙ own) (in_places n ms k ∙ ap (has_label n) g ∙ own))
     ]
 
@@ -127,7 +127,7 @@ module _ (meta : Meta) (theirs mine : List Operation) where
   mine_at : (k : ℕ) (b : Operation) → slice_get mine k ≡ Some b → slice_get (theirs ++ mine) (length theirs + k) ≡ Some b
   mine_at k b h = right_at theirs mine k ∙ h
 
-  pub parts : Parts meta theirs mine (buckets meta theirs mine)
+  pub parts : GroupInterfering meta theirs mine (buckets meta theirs mine)
   unfolding buckets
   parts = record {
     among_theirs = λ i j a b h g is.
@@ -148,5 +148,5 @@ module _ (meta : Meta) (theirs mine : List Operation) where
       below : (l i n : ℕ) → l ≤ i → i < n → l < n
       below l i n h g = omega (arith, h, g)
 
-pub buckets_are_parts : BucketsAreParts
+pub buckets_are_parts : BucketsGroupInterfering
 buckets_are_parts meta theirs mine = parts meta theirs mine

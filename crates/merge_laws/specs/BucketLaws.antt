@@ -4,13 +4,13 @@ use Rattle.ecore_meta.specs.Meta.{Meta}
 use Rattle.model_state.specs.declared.operation.Operation.{Operation}
 use Rattle.footprint.specs.Buckets.{labels, buckets}
 use Rattle.footprint.specs.declared.bucket.Bucket.{Bucket}
-use Rattle.merge_laws.specs.Parts.{Parts}
+use Rattle.merge_laws.specs.Grouping.{GroupInterfering}
 use Rattle.merge_laws.specs.Order.{InOrder}
 use Rattle.merge_laws.specs.Classes.{Linked, AreClasses}
 
 -- operations that interfere are in the same buckets
-abbrev pub BucketsAreParts : Type 0
-BucketsAreParts = (meta : Meta) (theirs mine : List Operation) → Parts meta theirs mine (buckets meta theirs mine)
+abbrev pub BucketsGroupInterfering : Type 0
+BucketsGroupInterfering = (meta : Meta) (theirs mine : List Operation) → GroupInterfering meta theirs mine (buckets meta theirs mine)
 
 -- an operation's label is the least place that is linked to it
 abbrev pub LabelsAreLeast : Type 0

@@ -4,7 +4,7 @@ use Rattle.ecore_meta.specs.Meta.{Meta}
 use Rattle.model_state.specs.declared.operation.Operation.{Operation}
 use Rattle.footprint.specs.Interference.{interferes}
 use Rattle.footprint.specs.declared.bucket.Bucket.{Bucket}
-use Rattle.merge_laws.specs.Parts.{SameTheirs, SameMine, shares}
+use Rattle.merge_laws.specs.Grouping.{SameTheirs, SameMine, shares}
 
 -- a list of places leads from one to the other, and the operations at neighbours in it interfere
 pub data Linked (meta : Meta) (os : List Operation) : ℕ → ℕ → Type 0 where

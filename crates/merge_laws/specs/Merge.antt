@@ -5,7 +5,7 @@ use Rattle.model_state.specs.State.{State}
 use Rattle.model_state.specs.declared.operation.Operation.{Operation}
 use Rattle.model_state.specs.Packages.{fold_package, rev_package}
 use Rattle.footprint.specs.declared.bucket.Bucket.{Bucket}
-use Rattle.merge_laws.specs.Parts.{is_in}
+use Rattle.merge_laws.specs.Grouping.{is_in}
 use Rattle.merge_laws.specs.declared.side.Side.{Side}
 use Rattle.merge_laws.specs.declared.side.Side.TheVariants.{Mine, Theirs}
 

@@ -4,7 +4,7 @@ use Rattle.std.specs.List.{find, list_any}
 use Rattle.ecore_meta.specs.Meta.{Meta}
 use Rattle.model_state.specs.declared.operation.Operation.{Operation}
 use Rattle.history_tree.specs.declared.version.Version.{Version}
-use Rattle.history_tree.specs.States.{package_at}
+use Rattle.history_tree.specs.States.{package_of_version}
 use Rattle.footprint.specs.Interference.{interferes}
 
 -- the places from k on of the operations that interfere with the one at i
@@ -27,4 +27,4 @@ have_pair meta os ps = list_any (λ o. list_any (interferes meta o) ps) os
 
 -- the first of some versions with an operation that interferes with one of the list
 abbrev pub first_interfering : Meta → List Version → List Operation → List ℕ → Option ℕ
-first_interfering meta versions operations us = find (λ u. have_pair meta operations (package_at versions u)) us
+first_interfering meta versions operations us = find (λ u. have_pair meta operations (package_of_version versions u)) us

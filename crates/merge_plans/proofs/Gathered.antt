@@ -5,7 +5,7 @@ use Rattle.std.proofs.Math.Seq.{take-suc}
 use Rattle.std.proofs.lemmas.List.{map-append}
 use Rattle.model_state.specs.declared.operation.Operation.{Operation}
 use Rattle.history_tree.specs.declared.version.Version.{Version}
-use Rattle.history_tree.specs.States.{package_at, operations_of}
+use Rattle.history_tree.specs.States.{package_of_version, operations_of}
 use Rattle.history_tree.proofs.Steady.{operations_append}
 
 -- one more of what was gone over
@@ -27,7 +27,7 @@ mapped_more f xs out new i d y within so_far pushed is =
     ∙ ap (map f) (sym (one_more xs i d within))
 
 pub operations_more : (vs : List Version) (us : List ℕ) (out new taken : List Operation) (i d : ℕ) → i < length us
-    → out ≡ operations_of vs (take i us) → new ≡ out ++ taken → package_at vs (get_or us i d) ≡ taken → new ≡ operations_of vs (take (i + 1) us)
+    → out ≡ operations_of vs (take i us) → new ≡ out ++ taken → package_of_version vs (get_or us i d) ≡ taken → new ≡ operations_of vs (take (i + 1) us)
 operations_more vs us out new taken i d within so_far pushed is =
-    pushed ∙ ap (λ l. l ++ taken) so_far ∙ ap (λ l. operations_of vs (take i us) ++ l) (sym is ∙ sym (append-nil (package_at vs (get_or us i d))))
+    pushed ∙ ap (λ l. l ++ taken) so_far ∙ ap (λ l. operations_of vs (take i us) ++ l) (sym is ∙ sym (append-nil (package_of_version vs (get_or us i d))))
     ∙ sym (operations_append vs (take i us) (get_or us i d ∷ [])) ∙ ap (operations_of vs) (sym (one_more us i d within))

@@ -7,7 +7,7 @@ use Rattle.std.proofs.lemmas.List.Elements.{All-from_recursion}
 use Rattle.ecore_meta.specs.Meta.{Meta}
 use Rattle.model_state.specs.declared.operation.Operation.{Operation}
 use Rattle.footprint.specs.declared.bucket.Bucket.{Bucket}
-use Rattle.footprint.specs.Buckets.{buckets, labels, mixed, places, rows}
+use Rattle.footprint.specs.Buckets.{buckets, labels, mixed, places, buckets_below}
 use Rattle.merge_laws.proofs.Exact.{labels_length}
 
 -- numbers below a bound
@@ -47,10 +47,10 @@ both : {X : Type 0} (P : X → Type 0) (xs ys : List X) → AllByRecursion P xs 
 both P [] ys first second = second
 both P (x ∷ xs) ys first second = (first.0, both P xs ys first.1 second)
 
-rows_below : (ts ms : List ℕ) (n : ℕ) → AllByRecursion (IsBelow (length ts) (length ms)) (rows ts ms n)
+rows_below : (ts ms : List ℕ) (n : ℕ) → AllByRecursion (IsBelow (length ts) (length ms)) (buckets_below ts ms n)
 rows_below ts ms zero = tt
 rows_below ts ms (suc n) =
-    both (IsBelow (length ts) (length ms)) (rows ts ms n) (mixed (places n ts) (places n ms)) (rows_below ts ms n)
+    both (IsBelow (length ts) (length ms)) (buckets_below ts ms n) (mixed (places n ts) (places n ms)) (rows_below ts ms n)
     (mixed_below (length ts) (length ms) (places n ts) (places n ms) (places_below n ts) (places_below n ms))
 
 take_short : (n : ℕ) (xs : List ℕ) → length (take n xs) ≤ n
@@ -64,10 +64,10 @@ drop_short (suc n) [] k is = absurd (omega (arith, is))
 drop_short (suc n) (x ∷ xs) k is = drop_short n xs k (omega (arith, is))
 
 -- numbers that have a further one of 64 bits
-abbrev pub HaveNumbers : Bucket → Type 0
-HaveNumbers b = All (λ i. i < 2 ^ 64 - 1) b.theirs × All (λ i. i < 2 ^ 64 - 1) b.mine
+abbrev pub HasNumbers : Bucket → Type 0
+HasNumbers b = All (λ i. i < 2 ^ 64 - 1) b.theirs × All (λ i. i < 2 ^ 64 - 1) b.mine
 
-numbered_each : (n k : ℕ) (bs : List Bucket) → n ≤ 2 ^ 64 - 1 → k ≤ 2 ^ 64 - 1 → AllByRecursion (IsBelow n k) bs → AllByRecursion HaveNumbers bs
+numbered_each : (n k : ℕ) (bs : List Bucket) → n ≤ 2 ^ 64 - 1 → k ≤ 2 ^ 64 - 1 → AllByRecursion (IsBelow n k) bs → AllByRecursion HasNumbers bs
 numbered_each n k [] first second all = tt
 numbered_each n k (b ∷ bs) first second all = (
   (
@@ -78,13 +78,13 @@ numbered_each n k (b ∷ bs) first second all = (
 )
 
 -- so do the places in the buckets of two packages whose lengths have 64 bits
-pub numbered : (meta : Meta) (theirs mine : List Operation) → length theirs < 2 ^ 64 → length mine < 2 ^ 64 → All HaveNumbers (buckets meta theirs mine)
+pub numbered : (meta : Meta) (theirs mine : List Operation) → length theirs < 2 ^ 64 → length mine < 2 ^ 64 → All HasNumbers (buckets meta theirs mine)
 unfolding buckets
 numbered meta theirs mine first second =
     let n = length theirs in
     let ls = labels meta (theirs ++ mine) in
     let all = rows_below (take n ls) (drop n ls) n in
     let size : length ls ≡ n + length mine = labels_length meta (theirs ++ mine) ∙ length-append theirs mine in
-    All-from_recursion HaveNumbers (rows (take n ls) (drop n ls) n)
-    (numbered_each (length (take n ls)) (length (drop n ls)) (rows (take n ls) (drop n ls) n) (omega (arith, take_short n ls, first))
+    All-from_recursion HasNumbers (buckets_below (take n ls) (drop n ls) n)
+    (numbered_each (length (take n ls)) (length (drop n ls)) (buckets_below (take n ls) (drop n ls) n) (omega (arith, take_short n ls, first))
     (omega (arith, drop_short n ls (length mine) size, second)) all)

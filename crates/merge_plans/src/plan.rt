@@ -5,7 +5,7 @@ ghost use Rattle.merge_laws.specs.Tidy.{tidy as tidy_of};
 ghost use Rattle.merge_laws.specs.Merge.{merge_list, update_list};
 ghost use Rattle.history_tree.specs.MergeBase.{merge_base};
 ghost use Rattle.merge_laws.specs.Choices.{are_choices, side_of};
-ghost use Rattle.merge_laws.specs.Plans.{incoming, mine_of, theirs_of};
+ghost use Rattle.merge_laws.specs.Plans.{theirs_of_update, mine_of_merge, theirs_of_merge};
 
 use crate::gathering::{copy_operations, operations_after, push_copies};
 use crate::letters::sides_of;
@@ -48,9 +48,9 @@ pub fn plan_update(
     local: &[Operation],
 ) -> Result<Plan, AllocError>
     requires branch { branch < length history.now.history.branches }
-    ensures theirs { IfOk result (λ p. p.theirs ≡ incoming history.now.history branch base) }
+    ensures theirs { IfOk result (λ p. p.theirs ≡ theirs_of_update history.now.history branch base) }
     ensures mine { IfOk result (λ p. p.mine ≡ local.now) }
-    ensures buckets { IfOk result (λ p. p.buckets.rows ≡ buckets_of meta.now (incoming history.now.history branch base) local.now) }
+    ensures buckets { IfOk result (λ p. p.buckets.rows ≡ buckets_of meta.now (theirs_of_update history.now.history branch base) local.now) }
     ensures places { IfOk result (λ p. All (λ b. All (λ i. i < 2 ^ 64 - 1) b.theirs × All (λ i. i < 2 ^ 64 - 1) b.mine) p.buckets.rows) }
 {
     let theirs = operations_after(alloc, history, base, history.head(branch))?;
@@ -76,7 +76,7 @@ fn mine_from(
     requires base { base < length history.now.history.versions }
     requires other { other < length history.now.history.versions }
     requires start { start < length history.now.history.versions }
-    ensures { IfOk result (λ p. (pending : List ℕ) → start ≡ merge_base history.now.history base pending other → p ≡ mine_of history.now.history base pending local.now other) }
+    ensures { IfOk result (λ p. (pending : List ℕ) → start ≡ merge_base history.now.history base pending other → p ≡ mine_of_merge history.now.history base pending local.now other) }
 {
     let common = history.last_common(base, other);
     let taken = operations_after(alloc, history, common, start)?;
@@ -101,9 +101,9 @@ pub fn plan_merge(
     requires base { base < length history.now.history.versions }
     requires other { other < length history.now.history.versions }
     requires pending { All (λ v. v < length history.now.history.versions) pending.now }
-    ensures theirs { IfOk result (λ p. p.theirs ≡ theirs_of history.now.history base pending.now other) }
-    ensures mine { IfOk result (λ p. p.mine ≡ tidy_of meta.now (mine_of history.now.history base pending.now local.now other)) }
-    ensures buckets { IfOk result (λ p. p.buckets.rows ≡ buckets_of meta.now (theirs_of history.now.history base pending.now other) (tidy_of meta.now (mine_of history.now.history base pending.now local.now other))) }
+    ensures theirs { IfOk result (λ p. p.theirs ≡ theirs_of_merge history.now.history base pending.now other) }
+    ensures mine { IfOk result (λ p. p.mine ≡ tidy_of meta.now (mine_of_merge history.now.history base pending.now local.now other)) }
+    ensures buckets { IfOk result (λ p. p.buckets.rows ≡ buckets_of meta.now (theirs_of_merge history.now.history base pending.now other) (tidy_of meta.now (mine_of_merge history.now.history base pending.now local.now other))) }
     ensures places { IfOk result (λ p. All (λ b. All (λ i. i < 2 ^ 64 - 1) b.theirs × All (λ i. i < 2 ^ 64 - 1) b.mine) p.buckets.rows) }
 {
     let start = history.merge_base(alloc, base, pending, other)?;

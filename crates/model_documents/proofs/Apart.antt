@@ -17,13 +17,13 @@ use Rattle.ecore_meta.specs.declared.meta.Value.{Value}
 use Rattle.model_state.specs.Ident.{is_id}
 use Rattle.model_state.specs.Keys.{IdBytes}
 use Rattle.model_state.specs.Typing.{is_default, kind_of, upper_of}
-use Rattle.emfjson_io.specs.Values.{value_in}
+use Rattle.emfjson_values.specs.Values.{value_in}
 use Rattle.model_documents.specs.declared.key.Key.{Key}
 use Rattle.model_documents.specs.declared.key.Key.TheVariants.{Own, Of, Unknown}
 use Rattle.model_documents.specs.declared.doc.DocParent.{DocParent}
 use Rattle.model_documents.specs.declared.doc.DocRefs.{DocRefs}
 use Rattle.model_documents.specs.declared.doc.DocRow.{DocRow}
-use Rattle.model_documents.specs.declared.draft.Draft.{Draft}
+use Rattle.model_documents.specs.declared.draft.ElementDraft.{ElementDraft}
 use Rattle.model_documents.specs.declared.fault.ModelFault.TheVariants.{BadValue, Bound, WrongType, DupId, BadId}
 use Rattle.finite_maps.specs.Maps.{is_within}
 use Rattle.model_documents.specs.Attributes.{elements, is_null, may_hold, set_part, values_in, values_part}
@@ -32,7 +32,7 @@ use Rattle.model_documents.specs.Document.{doc_of, of_json, resolved}
 use Rattle.model_documents.specs.Laws.{IdsAreApart, gives_id, ids_repeat, is_given}
 use Rattle.ecore_meta.specs.Typing.{is_one}
 use Rattle.model_documents.specs.Links.{entries_of, links_part}
-use Rattle.model_documents.specs.Merged.{given_at, merged_all, next_row, row_of, rows_by}
+use Rattle.model_documents.specs.Completed.{given_at, completed_all, next_row, row_of, rows_by}
 use Rattle.model_documents.specs.Parts.{Part, no_part, joined, Ids, ids_of}
 use Rattle.model_documents.specs.Reads.{Read, «then», unless, found, collected}
 use Rattle.model_documents.specs.References.{given_by}
@@ -149,15 +149,15 @@ links_bare f true es = refl
 links_bare f false es = refl
 
 -- the elements that a key gives are those that it holds
-abbrev Held : (ℕ → ℕ → Read (List Draft)) → Part → Type 0
+abbrev Held : (ℕ → ℕ → Read (List ElementDraft)) → Part → Type 0
 Held held more = (f : ℕ) × (t : ℕ) × (held f t ≡ Ok more.rows)
 
-held_rows_are : (r : Read (List Draft)) (more : Part) → «then» r (λ rows. Ok (rows_part rows)) ≡ Ok more → r ≡ Ok more.rows
+held_rows_are : (r : Read (List ElementDraft)) (more : Part) → «then» r (λ rows. Ok (rows_part rows)) ≡ Ok more → r ≡ Ok more.rows
 held_rows_are (Err e) more h = cc
 held_rows_are (Ok rows) more h = ap (λ (p : Part). Ok p.rows) (of_ok (rows_part rows) more h)
 
 module _ (meta : Meta) where
-  kind_gives : (f : ℕ) (k : Kind) (d : Data) (held : ℕ → ℕ → Read (List Draft)) (more : Part) → feature_part meta f k d held ≡ Ok more
+  kind_gives : (f : ℕ) (k : Kind) (d : Data) (held : ℕ → ℕ → Read (List ElementDraft)) (more : Part) → feature_part meta f k d held ≡ Ok more
       → Bare more ⊎ Held held more
   kind_gives f (Attr s default) d held more h = inl (single_bare f (is_null d) (value_in meta s d) (λ v. is_default (kind_of meta f) v) more h)
   kind_gives f (AttrMany s unique) d held more h =
@@ -172,7 +172,7 @@ module _ (meta : Meta) where
   kind_gives f (Container t o) d held more h = inl (bare_is no_part more refl (of_ok no_part more h))
   kind_gives f Skip d held more h = inl (bare_is no_part more refl (of_ok no_part more h))
 
-  pub key_gives : (k : Key) (d : Data) (held : ℕ → ℕ → Read (List Draft)) (more : Part) → key_part meta k d held ≡ Ok more → Bare more ⊎ Held held more
+  pub key_gives : (k : Key) (d : Data) (held : ℕ → ℕ → Read (List ElementDraft)) (more : Part) → key_part meta k d held ≡ Ok more → Bare more ⊎ Held held more
   key_gives Unknown d held more h = cc
   key_gives Own d held more h = inl (bare_is no_part more refl (of_ok no_part more h))
   key_gives (Of f) d held more h = kind_gives f (kind_of meta f) d held more h
@@ -182,7 +182,7 @@ module _ (meta : Meta) where
   object_apart : (ids : Ids) (parent : Option DocParent) (default : Option ℕ) (ms : Members) (inside : ℕ → Ids → Read Part)
       → ((c : ℕ) (id : Option IdBytes) (part : Part) → repeats (ids ++ id ∷ []) ≡ false → inside c (ids ++ id ∷ []) ≡ Ok part
       → repeats ((ids ++ id ∷ []) ++ ids_of part.rows) ≡ false)
-      → (more : List Draft) → repeats ids ≡ false → object_rows meta ids parent default ms inside ≡ Ok more → repeats (ids ++ ids_of more) ≡ false
+      → (more : List ElementDraft) → repeats ids ≡ false → object_rows meta ids parent default ms inside ≡ Ok more → repeats (ids ++ ids_of more) ≡ false
   object_apart ids parent default ms inside keeps more apart h =
       let class = then_ok (class_of meta default (get_member (codes "eClass") ms))
       (λ c. «then» (id_of ids (get_member (codes "_id") ms)) (λ id. own_rows parent id c (inside c (ids ++ id ∷ [])))) more h in
@@ -192,32 +192,34 @@ module _ (meta : Meta) where
       let kept = keeps class.0 name.0 part.0 (one_more ids name.0 apart (id_new ids (get_member (codes "_id") ms) name.0 name.1)) part.1 in
       let same : record { id = name.0; class = class.0; parent = parent; attrs = part.0.attrs; links = part.0.links } ∷ part.0.rows ≡ more =
       list_ok _ more part.2 in
-      subst (λ (rows : List Draft). repeats (ids ++ ids_of rows) ≡ false) same
+      subst (λ (rows : List ElementDraft). repeats (ids ++ ids_of rows) ≡ false) same
       (subst (λ (is : Ids). repeats is ≡ false) (append_assoc ids (name.0 ∷ []) (ids_of part.0.rows)) kept)
     where
-      list_ok : (xs ys : List Draft) → ◌≡◌ {A = Read (List Draft)} (Ok xs) (Ok ys) → xs ≡ ys
+      list_ok : (xs ys : List ElementDraft) → ◌≡◌ {A = Read (List ElementDraft)} (Ok xs) (Ok ys) → xs ≡ ys
       list_ok xs ys h = cc
 
   -- one part more
-  grown : (ids : Ids) (rows more : List Draft) → repeats ((ids ++ ids_of rows) ++ ids_of more) ≡ false → repeats (ids ++ ids_of (rows ++ more)) ≡ false
+  grown : (ids : Ids) (rows more : List ElementDraft) → repeats ((ids ++ ids_of rows) ++ ids_of more) ≡ false → repeats (ids ++ ids_of (rows ++ more)) ≡ false
   grown ids rows more h =
       subst (λ (is : Ids). repeats is ≡ false) (append_assoc ids (ids_of rows) (ids_of more) ∙ ap (λ is. ids ++ is) (sym (ids_append rows more))) h
 
-  bare_grown : (ids : Ids) (rows more : List Draft) → more ≡ [] → repeats (ids ++ ids_of rows) ≡ false → repeats (ids ++ ids_of (rows ++ more)) ≡ false
-  bare_grown ids rows more none h = subst (λ (rs : List Draft). repeats (ids ++ ids_of rs) ≡ false) (sym (append-nil rows) ∙ ap (λ m. rows ++ m) (sym none)) h
+  bare_grown : (ids : Ids) (rows more : List ElementDraft) → more ≡ [] → repeats (ids ++ ids_of rows) ≡ false → repeats (ids ++ ids_of (rows ++ more)) ≡ false
+  bare_grown ids rows more none h =
+      subst (λ (rs : List ElementDraft). repeats (ids ++ ids_of rs) ≡ false) (sym (append-nil rows) ∙ ap (λ m. rows ++ m) (sym none)) h
 
-  rows_ok : (xs ys : List Draft) → ◌≡◌ {A = Read (List Draft)} (Ok xs) (Ok ys) → xs ≡ ys
+  rows_ok : (xs ys : List ElementDraft) → ◌≡◌ {A = Read (List ElementDraft)} (Ok xs) (Ok ys) → xs ≡ ys
   rows_ok xs ys h = cc
 
-  nothing_grown : (ids : Ids) (more : List Draft) → repeats ids ≡ false → ◌≡◌ {A = Read (List Draft)} (Ok []) (Ok more) → repeats (ids ++ ids_of more) ≡ false
+  nothing_grown : (ids : Ids) (more : List ElementDraft) → repeats ids ≡ false → ◌≡◌ {A = Read (List ElementDraft)} (Ok []) (Ok more)
+      → repeats (ids ++ ids_of more) ≡ false
   nothing_grown ids more h is =
-      subst (λ (rs : List Draft). repeats (ids ++ ids_of rs) ≡ false) (rows_ok [] more is)
+      subst (λ (rs : List ElementDraft). repeats (ids ++ ids_of rs) ≡ false) (rows_ok [] more is)
       (subst (λ (is : Ids). repeats is ≡ false) (sym (append-nil ids)) h)
 
   mutual
     unfolding element_rows items_rows members_rows held_rows
 
-    element_apart : (ids : Ids) (parent : Option DocParent) (default : Option ℕ) (d : Data) (more : List Draft) → repeats ids ≡ false
+    element_apart : (ids : Ids) (parent : Option DocParent) (default : Option ℕ) (d : Data) (more : List ElementDraft) → repeats ids ≡ false
         → element_rows meta ids parent default d ≡ Ok more → repeats (ids ++ ids_of more) ≡ false
     element_apart ids parent default (object ms) more apart h =
         object_apart ids parent default ms (λ c below. members_rows meta c (length ids) below no_part ms)
@@ -229,10 +231,11 @@ module _ (meta : Meta) where
     element_apart ids parent default (string s) more apart h = cc
     element_apart ids parent default (array ds) more apart h = cc
 
-    items_apart : (ids : Ids) (parent : Option DocParent) (default : Option ℕ) (rows : List Draft) (ds : Items) (more : List Draft)
+    items_apart : (ids : Ids) (parent : Option DocParent) (default : Option ℕ) (rows : List ElementDraft) (ds : Items) (more : List ElementDraft)
         → repeats (ids ++ ids_of rows) ≡ false → items_rows meta ids parent default rows ds ≡ Ok more
         → repeats (ids ++ ids_of more) ≡ false
-    items_apart ids parent default rows no_items more apart h = subst (λ (rs : List Draft). repeats (ids ++ ids_of rs) ≡ false) (rows_ok rows more h) apart
+    items_apart ids parent default rows no_items more apart h =
+        subst (λ (rs : List ElementDraft). repeats (ids ++ ids_of rs) ≡ false) (rows_ok rows more h) apart
     items_apart ids parent default rows (item d ds) more apart h =
         let one = then_ok (element_rows meta (ids ++ ids_of rows) parent default d) (λ more. items_rows meta ids parent default (rows ++ more) ds) more h in
         items_apart ids parent default (rows ++ one.0) ds more
@@ -242,7 +245,7 @@ module _ (meta : Meta) where
         → members_rows meta c own ids part ms ≡ Ok more → repeats (ids ++ ids_of more.rows) ≡ false
     members_apart c own ids part no_members more apart h = subst (λ (p : Part). repeats (ids ++ ids_of p.rows) ≡ false) (of_ok part more h) apart
     members_apart c own ids part (member k d ms) more apart h =
-        let held : ℕ → ℕ → Read (List Draft) = λ f target. held_rows meta (ids ++ ids_of part.rows) (record { row = own; feature = f }) target d in
+        let held : ℕ → ℕ → Read (List ElementDraft) = λ f target. held_rows meta (ids ++ ids_of part.rows) (record { row = own; feature = f }) target d in
         let one = then_ok (key_part meta (key_named meta c k) d held) (λ more. members_rows meta c own ids (joined part more) ms) more h in
         members_apart c own ids (joined part one.0) ms more
         (elim (key_gives (key_named meta c k) d held one.0 one.1) [
@@ -251,7 +254,7 @@ module _ (meta : Meta) where
               (held_apart (ids ++ ids_of part.rows) (record { row = own; feature = some.0 }) some.1 d one.0.rows apart some.2)
         ]) one.2
 
-    held_apart : (ids : Ids) (parent : DocParent) (target : ℕ) (d : Data) (more : List Draft) → repeats ids ≡ false
+    held_apart : (ids : Ids) (parent : DocParent) (target : ℕ) (d : Data) (more : List ElementDraft) → repeats ids ≡ false
         → held_rows meta ids parent target d ≡ Ok more → repeats (ids ++ ids_of more) ≡ false
     held_apart ids parent target null more apart h = nothing_grown ids more apart h
     held_apart ids parent target (object ms) more apart h =
@@ -270,7 +273,7 @@ module _ (meta : Meta) where
     held_apart ids parent target (number n) more apart h = cc
     held_apart ids parent target (string s) more apart h = cc
 
-  walked_apart : (d : Data) (more : List Draft) → walked meta d ≡ Ok more → repeats (ids_of more) ≡ false
+  walked_apart : (d : Data) (more : List ElementDraft) → walked meta d ≡ Ok more → repeats (ids_of more) ≡ false
   walked_apart (array ds) more h = items_apart [] None None [] ds more refl h
   walked_apart (object ms) more h = element_apart [] None None (object ms) more refl h
   walked_apart null more h = cc
@@ -279,8 +282,8 @@ module _ (meta : Meta) where
   walked_apart (string s) more h = cc
 
   -- ---- a row keeps what the walk gave of it, but for its references and the order of its attributes
-  pub rows_keep : {X : Type 0} (f : Draft → X) (g : DocRow → X) → ((r : Draft) (refs : List DocRefs) → g (row_of meta r refs) ≡ f r)
-      → (given : List (List DocRefs)) (rows : List DocRow) (drafts : List Draft) (more : List DocRow)
+  pub rows_keep : {X : Type 0} (f : ElementDraft → X) (g : DocRow → X) → ((r : ElementDraft) (refs : List DocRefs) → g (row_of meta r refs) ≡ f r)
+      → (given : List (List DocRefs)) (rows : List DocRow) (drafts : List ElementDraft) (more : List DocRow)
       → collected (next_row meta given) rows drafts ≡ Ok more → map g more ≡ map g rows ++ map f drafts
   rows_keep f g keeps given rows [] more h = ap (map g) (sym (doc_ok rows more h)) ∙ sym (append-nil (map g rows))
     where
@@ -288,7 +291,7 @@ module _ (meta : Meta) where
       doc_ok xs ys h = cc
   rows_keep f g keeps given rows (r ∷ drafts) more h =
       let one = then_ok (next_row meta given rows r) (λ b. collected (next_row meta given) (rows ++ b ∷ []) drafts) more h in
-      let refs = then_ok (merged_all meta given (length rows) (given_at given (length rows))) (λ refs. Ok (row_of meta r refs)) one.0 one.1 in
+      let refs = then_ok (completed_all meta given (length rows) (given_at given (length rows))) (λ refs. Ok (row_of meta r refs)) one.0 one.1 in
       rows_keep f g keeps given (rows ++ one.0 ∷ []) drafts more one.2
       ∙ ap (λ is. is ++ map f drafts) (map_last rows one.0)
       ∙ append_assoc (map g rows) (g one.0 ∷ []) (map f drafts)
@@ -319,7 +322,7 @@ of_data meta None rows h = cc
 of_data meta (Some d) rows h =
     let drafts = then_ok (walked meta d) (resolved meta) rows h in
     let given = then_ok (given_by meta drafts.0) (λ given. rows_by meta given drafts.0) rows drafts.2 in
-    rows_repeat rows ∙ ap repeats (rows_keep meta (λ (r : Draft). r.id) (λ (r : DocRow). r.id) (λ r refs. refl) given.0 [] drafts.0 rows given.2)
+    rows_repeat rows ∙ ap repeats (rows_keep meta (λ (r : ElementDraft). r.id) (λ (r : DocRow). r.id) (λ r refs. refl) given.0 [] drafts.0 rows given.2)
     ∙ walked_apart meta d drafts.0 drafts.1
 
 pub ids_apart : IdsAreApart

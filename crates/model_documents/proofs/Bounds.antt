@@ -15,7 +15,7 @@ use Rattle.ecore_meta.specs.declared.meta.Kind.TheVariants.{Contains}
 use Rattle.ecore_meta.specs.Names.{Name}
 use Rattle.model_state.specs.Typing.{child_upper, is_containment, kind_of, upper_of}
 use Rattle.model_documents.specs.declared.doc.DocParent.{DocParent}
-use Rattle.model_documents.specs.declared.draft.Draft.{Draft}
+use Rattle.model_documents.specs.declared.draft.ElementDraft.{ElementDraft}
 use Rattle.finite_maps.specs.Maps.{is_within}
 use Rattle.model_documents.specs.Laws.{parent_before}
 use Rattle.model_documents.specs.Parts.{Part, joined}
@@ -35,13 +35,13 @@ place_equality : IsEquality (option_eq parent_eq)
 place_equality = option_equality parent_eq parent_equality
 
 -- how many of the rows stand at the place
-abbrev pub count : DocParent → List Draft → ℕ
-count q rows = count_by (λ (r : Draft). option_eq parent_eq r.parent (Some q)) rows
+abbrev pub count : DocParent → List ElementDraft → ℕ
+count q rows = count_by (λ (r : ElementDraft). option_eq parent_eq r.parent (Some q)) rows
 
-pub count_append : (q : DocParent) (xs ys : List Draft) → count q (xs ++ ys) ≡ count q xs + count q ys
-count_append q xs ys = sum_by-append (λ (r : Draft). cond (option_eq parent_eq r.parent (Some q)) 1 0) xs ys
+pub count_append : (q : DocParent) (xs ys : List ElementDraft) → count q (xs ++ ys) ≡ count q xs + count q ys
+count_append q xs ys = sum_by-append (λ (r : ElementDraft). cond (option_eq parent_eq r.parent (Some q)) 1 0) xs ys
 
-count_first : (q : DocParent) (r : Draft) (rows : List Draft) (b : Bool) → option_eq parent_eq r.parent (Some q) ≡ b
+count_first : (q : DocParent) (r : ElementDraft) (rows : List ElementDraft) (b : Bool) → option_eq parent_eq r.parent (Some q) ≡ b
     → count q (r ∷ rows) ≡ cond b 1 0 + count q rows
 count_first q r rows b is =
     count_append q (r ∷ []) rows ∙ ap (λ n. n + count q rows) (alone (cond (option_eq parent_eq r.parent (Some q)) 1 0) ∙ ap (λ c. cond c 1 0) is)
@@ -49,7 +49,7 @@ count_first q r rows b is =
     alone : (n : ℕ) → 0 + n ≡ n
     alone n = omega arith
 
-count_other : (q : DocParent) (r : Draft) (rows : List Draft) → (r.parent ≡ Some q → ⊥) → count q (r ∷ rows) ≡ count q rows
+count_other : (q : DocParent) (r : ElementDraft) (rows : List ElementDraft) → (r.parent ≡ Some q → ⊥) → count q (r ∷ rows) ≡ count q rows
 count_other q r rows other =
     count_first q r rows false (not_so (option_eq parent_eq r.parent (Some q)) (λ h. other (place_equality.exact r.parent (Some q) h)))
     ∙ none (count q rows)
@@ -57,7 +57,7 @@ count_other q r rows other =
     none : (n : ℕ) → 0 + n ≡ n
     none n = omega arith
 
-count_this : (q : DocParent) (r : Draft) (rows : List Draft) → r.parent ≡ Some q → count q rows ≡ 0 → count q (r ∷ rows) ≡ 1
+count_this : (q : DocParent) (r : ElementDraft) (rows : List ElementDraft) → r.parent ≡ Some q → count q rows ≡ 0 → count q (r ∷ rows) ≡ 1
 count_this q r rows is none = count_first q r rows true (ap (λ p. option_eq parent_eq p (Some q)) is ∙ place_equality.own (Some q)) ∙ ap (λ n. 1 + n) none
 
 both_none : (a b : ℕ) → a ≡ 0 → b ≡ 0 → a + b ≡ 0
@@ -87,7 +87,7 @@ none_within None = refl
 none_within (Some u) = grind (arith, nat_tests)
 
 -- rows from the number n on, so many of them at the place p before them
-pub record Rows (meta : Meta) (n : ℕ) (p : Option DocParent) (t : Option ℕ) (k : ℕ) (rows : List Draft) : Type 0 where
+pub record Rows (meta : Meta) (n : ℕ) (p : Option DocParent) (t : Option ℕ) (k : ℕ) (rows : List ElementDraft) : Type 0 where
   pub tops : (q : DocParent) → p ≡ Some q → count q rows ≡ k
   pub others : (q : DocParent) → q.row < n → (p ≡ Some q → ⊥) → count q rows ≡ 0
   pub within : (q : DocParent) → n ≤ q.row → is_within (count q rows) (child_upper meta q.feature) ≡ true
@@ -108,7 +108,7 @@ module _ (meta : Meta) where
   other_row p q n before le is = let less = before_less n p q before is in absurd (omega (arith, less, le))
 
   -- rows after others
-  rows_more : (n : ℕ) (p : Option DocParent) (t : Option ℕ) (k l : ℕ) (xs ys : List Draft) → parent_before n p ≡ true → Rows meta n p t k xs
+  rows_more : (n : ℕ) (p : Option DocParent) (t : Option ℕ) (k l : ℕ) (xs ys : List ElementDraft) → parent_before n p ≡ true → Rows meta n p t k xs
       → Rows meta (n + length xs) p t l ys → Rows meta n p t (k + l) (xs ++ ys)
   rows_more n p t k l xs ys before h g = record {
     tops = λ q is. count_append q xs ys ∙ ap₂ (λ a b. a + b) (h.tops q is) (g.tops q is);
@@ -127,13 +127,13 @@ module _ (meta : Meta) where
         (g.beyond q (long n xs ys q.row le));
   }
     where
-      long : (n : ℕ) (xs ys : List Draft) (m : ℕ) → n + length (xs ++ ys) ≤ m → n + length xs + length ys ≤ m
+      long : (n : ℕ) (xs ys : List ElementDraft) (m : ℕ) → n + length (xs ++ ys) ≤ m → n + length xs + length ys ≤ m
       long n xs ys m le = omega (arith, le, length-append xs ys)
 
       shorter : (n a b m : ℕ) → n + a + b ≤ m → n + a ≤ m
       shorter n a b m le = omega (arith, le)
 
-  rows_own : (n : ℕ) (p : Option DocParent) (t : Option ℕ) (r : Draft) (c : ℕ) (last : Option Name) (part : Part) → r.parent ≡ p
+  rows_own : (n : ℕ) (p : Option DocParent) (t : Option ℕ) (r : ElementDraft) (c : ℕ) (last : Option Name) (part : Part) → r.parent ≡ p
       → parent_before n p ≡ true → Keys meta c n last part → Rows meta n p t 1 (r ∷ part.rows)
   rows_own n p t r c last part is before so = record {
     tops = λ q e. count_this q r part.rows (is ∙ e) (so.outside q (before_less n p q before e));
@@ -159,7 +159,7 @@ module _ (meta : Meta) where
   named_is : (c : ℕ) (k : Name) (f : ℕ) → feature_named meta c k ≡ Some f → name_at meta.features f ≡ k
   named_is c k f named = (bytes_eq-Decides (name_at meta.features f) k).0 (named_has meta c k f named).1
 
-  module _ (c own : ℕ) (last : Option Name) (k : Name) (part : Part) (f target : ℕ) (opposite : Option ℕ) (n : ℕ) (rows : List Draft)
+  module _ (c own : ℕ) (last : Option Name) (k : Name) (part : Part) (f target : ℕ) (opposite : Option ℕ) (n : ℕ) (rows : List ElementDraft)
       (above : Above last k) (so : Keys meta c own last part) (named : feature_named meta c k ≡ Some f)
       (kind : kind_of meta f ≡ Contains target opposite) (within : is_within n (upper_of meta f) ≡ true)
       (held : Rows meta (suc own + length part.rows) (Some (record { row = own; feature = f })) (Some target) n rows) where
@@ -233,13 +233,13 @@ module _ (meta : Meta) where
         shorter l m le = omega (arith, le, length-append part.rows rows)
 
   keys_bare : (c own : ℕ) (last : Option Name) (k : Name) (part one : Part) → Above last k → Keys meta c own last part → Plain meta c one
-      → (rows : List Draft) → rows ≡ part.rows → (all : Part) → all.rows ≡ rows → Keys meta c own (Some k) all
+      → (rows : List ElementDraft) → rows ≡ part.rows → (all : Part) → all.rows ≡ rows → Keys meta c own (Some k) all
   keys_bare c own last k part one above so plain rows same all is =
       let e : part.rows ≡ all.rows = sym same ∙ sym is in
       record {
         outside = λ q less. ap (count q) (sym e) ∙ so.outside q less;
         within = λ q le. ap (λ rs. is_within (count q rs) (child_upper meta q.feature)) (sym e) ∙ so.within q le;
-        beyond = λ q le. ap (count q) (sym e) ∙ so.beyond q (subst (λ (rs : List Draft). suc own + length rs ≤ q.row) (sym e) le);
+        beyond = λ q le. ap (count q) (sym e) ∙ so.beyond q (subst (λ (rs : List ElementDraft). suc own + length rs ≤ q.row) (sym e) le);
         unseen = λ f higher. ap (count (record { row = own; feature = f })) (sym e) ∙ so.unseen f (above_more last k (name_at meta.features f) above higher);
       }
 
@@ -262,7 +262,7 @@ module _ (meta : Meta) where
     };
     bare = λ c own last k part one above so plain.
         keys_bare c own last k part one above so plain (part.rows ++ one.rows)
-        (ap (λ (rs : List Draft). part.rows ++ rs) plain.none ∙ append-nil part.rows) (joined part one) refl;
+        (ap (λ (rs : List ElementDraft). part.rows ++ rs) plain.none ∙ append-nil part.rows) (joined part one) refl;
     holds = λ c own last k part f target opposite count rows above so named kind within held.
         let made = keys_hold c own last k part f target opposite count rows above so named kind within held in
         record { outside = made.outside; within = made.within; beyond = made.beyond; unseen = made.unseen };

@@ -6,7 +6,7 @@ use Rattle.ecore_meta.specs.Meta.{Meta}
 use Rattle.ecore_meta.specs.declared.meta.Scalar.{Scalar}
 use Rattle.ecore_meta.specs.declared.meta.Value.{Value}
 use Rattle.model_state.specs.Typing.{is_default, kind_of}
-use Rattle.emfjson_io.specs.Values.{value_in}
+use Rattle.emfjson_values.specs.Values.{value_in}
 use Rattle.model_documents.specs.declared.fault.ModelFault.TheVariants.{BadValue, Bound}
 use Rattle.model_documents.specs.Attributes.{is_null, elements, attr_part, values_part, set_part, single_part, values_in, may_hold, many_part}
 use Rattle.model_documents.specs.Parts.{no_part}

@@ -11,7 +11,7 @@ use Rattle.finite_maps.specs.Equal.{option_eq, text_eq}
 use Rattle.finite_maps.proofs.EqualLaws.{and_first, and_second, nat_equality, text_equality, apart}
 use Rattle.model_state.specs.Keys.{IdBytes}
 use Rattle.model_documents.specs.declared.doc.DocParent.{DocParent}
-use Rattle.model_documents.specs.declared.draft.Draft.{Draft}
+use Rattle.model_documents.specs.declared.draft.ElementDraft.{ElementDraft}
 use Rattle.model_documents.specs.Finder.{first_of, numbers_at, place_cmp}
 use Rattle.model_documents.specs.Parts.{ids_of}
 use Rattle.model_documents.specs.Places.{has_id, named, numbers_where, parent_eq}
@@ -23,7 +23,7 @@ parent_exact p q h =
     λ i. record { row = rows i; feature = features i }
 
 -- ---- the numbers of the rows that pass a test
-numbers_last : (p : Draft → Bool) (n : ℕ) (rows : List Draft) (r : Draft) (m : ℕ) → n + length rows ≡ m
+numbers_last : (p : ElementDraft → Bool) (n : ℕ) (rows : List ElementDraft) (r : ElementDraft) (m : ℕ) → n + length rows ≡ m
     → numbers_where p n (rows ++ r ∷ []) ≡ numbers_where p n rows ++ cond {A = List ℕ} (p r) (m ∷ []) []
 numbers_last p n [] r m is = ap (λ k. cond {A = List ℕ} (p r) (k ∷ []) []) (same n m is)
   where
@@ -40,7 +40,7 @@ numbers_last p n (x ∷ xs) r m is = by (p x) (numbers_last p (suc n) xs r m (mo
     by true h = ap (λ l. n ∷ l) h
     by false h = h
 
-pub numbers_more : (p : Draft → Bool) (rows : List Draft) (n : ℕ) (r : Draft) → n < length rows → r ≡ get_or rows n r
+pub numbers_more : (p : ElementDraft → Bool) (rows : List ElementDraft) (n : ℕ) (r : ElementDraft) → n < length rows → r ≡ get_or rows n r
     → numbers_where p 0 (take (n + 1) rows) ≡ numbers_where p 0 (take n rows) ++ cond {A = List ℕ} (p r) (n ∷ []) []
 numbers_more p rows n r less is =
     ap (numbers_where p 0) (take_more rows n r less)
@@ -59,13 +59,13 @@ first_more [] true n = refl
 first_more [] false n = refl
 first_more (x ∷ xs) b n = refl
 
-pub named_more : (rows : List Draft) (n : ℕ) (r : Draft) (t : IdBytes) → n < length rows → r ≡ get_or rows n r
+pub named_more : (rows : List ElementDraft) (n : ℕ) (r : ElementDraft) (t : IdBytes) → n < length rows → r ≡ get_or rows n r
     → named (take (n + 1) rows) t ≡ first_of (named (take n rows) t) (cond (has_id t r) (Some n) None)
 named_more rows n r t less is =
     ap (λ ns. slice_get ns 0) (numbers_more (has_id t) rows n r less is)
     ∙ first_more (numbers_where (has_id t) 0 (take n rows)) (has_id t r) n
 
-pub named_last : (rows : List Draft) (r : Draft) (t : IdBytes)
+pub named_last : (rows : List ElementDraft) (r : ElementDraft) (t : IdBytes)
     → named (rows ++ r ∷ []) t ≡ first_of (named rows t) (cond (has_id t r) (Some (length rows)) None)
 named_last rows r t =
     ap (λ ns. slice_get ns 0) (numbers_last (has_id t) 0 rows r (length rows) (none (length rows)))
@@ -75,10 +75,12 @@ named_last rows r t =
     none n = omega arith
 
 -- a row that keeps its id is found as before
-pub named_set : (rows : List Draft) (own : ℕ) (r s : Draft) (t : IdBytes) → r ≡ get_or rows own r → s.id ≡ r.id → named (slice_set rows own s) t ≡ named rows t
+pub named_set : (rows : List ElementDraft) (own : ℕ) (r s : ElementDraft) (t : IdBytes) → r ≡ get_or rows own r → s.id ≡ r.id
+    → named (slice_set rows own s) t ≡ named rows t
 named_set rows own r s t at same = ap (λ ns. slice_get ns 0) (go 0 rows own at)
   where
-    go : (n : ℕ) (rows : List Draft) (own : ℕ) → r ≡ get_or rows own r → numbers_where (has_id t) n (slice_set rows own s) ≡ numbers_where (has_id t) n rows
+    go : (n : ℕ) (rows : List ElementDraft) (own : ℕ) → r ≡ get_or rows own r
+        → numbers_where (has_id t) n (slice_set rows own s) ≡ numbers_where (has_id t) n rows
     go n [] own at = refl
     go n (x ∷ xs) zero at =
         ap (λ b. cond b (n ∷ numbers_where (has_id t) (suc n) xs) (numbers_where (has_id t) (suc n) xs))
@@ -94,14 +96,14 @@ turned (Some u) t = by (text_eq u t) refl
     by false h = h ∙ sym (apart text_eq text_equality u t h)
 
 -- an id that finds a row is one that a row has
-pub named_had : (rows : List Draft) (t : IdBytes) → is_some (named rows t) ≡ list_any (option_eq text_eq (Some t)) (ids_of rows)
+pub named_had : (rows : List ElementDraft) (t : IdBytes) → is_some (named rows t) ≡ list_any (option_eq text_eq (Some t)) (ids_of rows)
 named_had rows t = from 0 rows
   where
     step : (b : Bool) (n : ℕ) (ns : List ℕ) (any : Bool) → is_some (slice_get ns 0) ≡ any → is_some (slice_get (cond b (n ∷ ns) ns) 0) ≡ b || any
     step true n ns any h = refl
     step false n ns any h = h
 
-    from : (n : ℕ) (rows : List Draft) → is_some (slice_get (numbers_where (has_id t) n rows) 0) ≡ list_any (option_eq text_eq (Some t)) (ids_of rows)
+    from : (n : ℕ) (rows : List ElementDraft) → is_some (slice_get (numbers_where (has_id t) n rows) 0) ≡ list_any (option_eq text_eq (Some t)) (ids_of rows)
     from n [] = refl
     from n (r ∷ rs) =
         step (has_id t r) n (numbers_where (has_id t) (suc n) rs) _ (from (suc n) rs)

@@ -14,10 +14,10 @@ use Rattle.model_documents.specs.declared.doc.DocAttr.{DocAttr}
 use Rattle.model_documents.specs.declared.doc.DocParent.{DocParent}
 use Rattle.model_documents.specs.declared.doc.DocRefs.{DocRefs}
 use Rattle.model_documents.specs.declared.doc.DocRow.{DocRow}
-use Rattle.model_documents.specs.declared.draft.Draft.{Draft}
+use Rattle.model_documents.specs.declared.draft.ElementDraft.{ElementDraft}
 use Rattle.model_documents.specs.Document.{doc_of, of_json, resolved}
 use Rattle.model_documents.specs.Fits.{AttrFits, DocumentsFit, DocumentFits, Follows, RefsFit, RowFits, StandsFit, numbers_differ, standing}
-use Rattle.model_documents.specs.Merged.{rows_by}
+use Rattle.model_documents.specs.Completed.{rows_by}
 use Rattle.model_documents.specs.References.{given_by}
 use Rattle.model_documents.specs.Places.{parent_eq}
 use Rattle.model_documents.specs.Walk.{walked}
@@ -43,14 +43,14 @@ parents_count parent p (x ∷ xs) =
     ∙ ap (λ n. cond (option_eq parent_eq (parent x) p) 1 0 + n) (parents_count parent p xs)
     ∙ sym (sum_by-cons (λ (q : Option DocParent). cond (option_eq parent_eq q p) 1 0) (parent x) (map parent xs))
 
-module _ (meta : Meta) (promised : IsMetamodel meta) (drafts : List Draft) (given : List (List DocRefs)) (rows : List DocRow)
+module _ (meta : Meta) (promised : IsMetamodel meta) (drafts : List ElementDraft) (given : List (List DocRefs)) (rows : List DocRow)
     (gives : given_by meta drafts ≡ Ok given) (makes : rows_by meta given drafts ≡ Ok rows) where
-  same_count : (p : Option DocParent) → standing p rows ≡ count_by (λ (r : Draft). option_eq parent_eq r.parent p) drafts
+  same_count : (p : Option DocParent) → standing p rows ≡ count_by (λ (r : ElementDraft). option_eq parent_eq r.parent p) drafts
   same_count p =
       parents_count (λ (r : DocRow). r.parent) p rows
       ∙ ap (λ (ps : List (Option DocParent)). count_by (λ q. option_eq parent_eq q p) ps)
-      (rows_keep meta (λ (r : Draft). r.parent) (λ (r : DocRow). r.parent) (λ r refs. refl) given [] drafts rows makes)
-      ∙ sym (parents_count (λ (r : Draft). r.parent) p drafts)
+      (rows_keep meta (λ (r : ElementDraft). r.parent) (λ (r : DocRow). r.parent) (λ r refs. refl) given [] drafts rows makes)
+      ∙ sym (parents_count (λ (r : ElementDraft). r.parent) p drafts)
 
   -- no containment is above its bound
   bound_fits : (k : ℕ) → bounds.Rows meta 0 None None k drafts → (p : DocParent) → is_within (standing (Some p) rows) (child_upper meta p.feature) ≡ true
@@ -61,7 +61,7 @@ module _ (meta : Meta) (promised : IsMetamodel meta) (drafts : List Draft) (give
 
   -- ---- each row
   module _ (k : ℕ) (stand : standings.Rows meta 0 None None k drafts) (n : ℕ) (w : DocRow) (m : Made meta drafts given n w) where
-    abbrev draft : Draft
+    abbrev draft : ElementDraft
     draft = m.draft
 
     class_is : w.class ≡ draft.class
@@ -80,7 +80,8 @@ module _ (meta : Meta) (promised : IsMetamodel meta) (drafts : List Draft) (give
 
     row_fits : RowFits meta rows w
     row_fits =
-        let placed = every_at (λ (r : Draft). standings.Typed meta r × (OnTop meta None None r ⊎ Inside meta 0 drafts r)) drafts n draft stand.each m.drafted in
+        let placed = every_at (λ (r : ElementDraft). standings.Typed meta r × (OnTop meta None None r ⊎ Inside meta 0 drafts r)) drafts n draft
+        stand.each m.drafted in
         let fs = features_of meta draft.class in
         let attrs : AttrsFit meta w.class w.attrs =
         subst (λ (x : DocRow). AttrsFit meta x.class x.attrs) m.same (by_keeps (AttrFits meta draft.class) draft.attrs fs placed.0.attrs) in

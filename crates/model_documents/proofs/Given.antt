@@ -10,11 +10,11 @@ use Rattle.ecore_meta.proofs.DeclaredLaws.{has_any}
 use Rattle.ecore_meta.proofs.RisingLaws.{kept_is}
 use Rattle.model_state.specs.Typing.{has_feature, is_plain, kind_of, plain_to}
 use Rattle.model_documents.specs.declared.doc.DocRefs.{DocRefs}
-use Rattle.model_documents.specs.declared.draft.Draft.{Draft}
+use Rattle.model_documents.specs.declared.draft.ElementDraft.{ElementDraft}
 use Rattle.model_documents.specs.declared.draft.Links.{Links}
 use Rattle.model_documents.specs.declared.fault.ModelFault.TheVariants.{BadRef, WrongType}
 use Rattle.model_documents.specs.Fits.{Follows, numbers_differ}
-use Rattle.model_documents.specs.Merged.{targets_at}
+use Rattle.model_documents.specs.Completed.{targets_at}
 use Rattle.model_documents.specs.Reads.{Read, collected, unless}
 use Rattle.model_documents.specs.Places.{class_at}
 use Rattle.model_documents.specs.References.{entries_at, given_by, located, new_target, plain_features, refs_at, refs_of, target_of, targets_of}
@@ -49,20 +49,20 @@ module _ (meta : Meta) where
 
 -- ---- targets
 -- each once, and of rows of the reference's type
-pub record TargetsFit (meta : Meta) (rows : List Draft) (f : ℕ) (ts : List ℕ) : Type 0 where
+pub record TargetsFit (meta : Meta) (rows : List ElementDraft) (f : ℕ) (ts : List ℕ) : Type 0 where
   pub apart : numbers_differ ts ≡ true
-  pub typed : (b : ℕ) → has ts b ≡ true → (d : Draft) × (slice_get rows b ≡ Some d) × (plain_to meta (kind_of meta f) d.class ≡ true)
+  pub typed : (b : ℕ) → has ts b ≡ true → (d : ElementDraft) × (slice_get rows b ≡ Some d) × (plain_to meta (kind_of meta f) d.class ≡ true)
 
 -- the list of a feature of an element
-abbrev pub ListFits : Meta → List Draft → ℕ → DocRefs → Type 0
+abbrev pub ListFits : Meta → List ElementDraft → ℕ → DocRefs → Type 0
 ListFits meta rows f q = (f ≡ q.feature) × TargetsFit meta rows f q.targets
 
-module _ (meta : Meta) (rows : List Draft) where
+module _ (meta : Meta) (rows : List ElementDraft) where
   number_ok : (m n : ℕ) → ◌≡◌ {A = Read ℕ} (Ok m) (Ok n) → m ≡ n
   number_ok m n h = cc
 
-  class_is : (n : ℕ) (d : Draft) → slice_get rows n ≡ Some d → class_at rows n ≡ d.class
-  class_is n d at = ap (λ (o : Option Draft). option_map_or (λ (r : Draft). r.class) o 0) at
+  class_is : (n : ℕ) (d : ElementDraft) → slice_get rows n ≡ Some d → class_at rows n ≡ d.class
+  class_is n d at = ap (λ (o : Option ElementDraft). option_map_or (λ (r : ElementDraft). r.class) o 0) at
 
   new_target_is : (f : ℕ) (ts : List ℕ) (o : Option ℕ) (n : ℕ) → new_target meta rows f ts o ≡ Ok n
       → (o ≡ Some n) × (has ts n ≡ false) × (plain_to meta (kind_of meta f) (class_at rows n) ≡ true)
@@ -115,10 +115,10 @@ module _ (meta : Meta) (rows : List Draft) where
       list_ok p q h = cc
 
   -- the lists of an element
-  abbrev pub ListsFit : Draft → List DocRefs → Type 0
+  abbrev pub ListsFit : ElementDraft → List DocRefs → Type 0
   ListsFit r refs = Paired (λ k f q. ListFits meta rows f q) 0 (plain_of meta r.class) refs
 
-  lists_fit : (before : List (List DocRefs)) (r : Draft) (refs : List DocRefs) → refs_of meta rows before r ≡ Ok refs → ListsFit r refs
+  lists_fit : (before : List (List DocRefs)) (r : ElementDraft) (refs : List DocRefs) → refs_of meta rows before r ≡ Ok refs → ListsFit r refs
   lists_fit before r refs h =
       all_pairs (λ k f q. ListFits meta rows f q) (refs_at meta rows r.links) (λ bs f q e. list_fits r.links f q e) (plain_of meta r.class) refs h
 
@@ -127,7 +127,7 @@ module _ (meta : Meta) (rows : List Draft) where
 
   -- the row of that number is of a class that the feature may refer to
   abbrev pub IsTyped : ℕ → ℕ → Type 0
-  IsTyped g b = (d : Draft) × (slice_get rows b ≡ Some d) × (plain_to meta (kind_of meta g) d.class ≡ true)
+  IsTyped g b = (d : ElementDraft) × (slice_get rows b ≡ Some d) × (plain_to meta (kind_of meta g) d.class ≡ true)
 
   -- a target that is given
   pub given_typed : (n : ℕ) (fs : List ℕ) (refs : List DocRefs) (g b : ℕ) → Paired (λ k f q. ListFits meta rows f q) n fs refs

@@ -21,7 +21,7 @@ use Rattle.model_state.specs.Typing.{is_concrete, kind_of, upper_of}
 use Rattle.model_documents.specs.declared.key.Key.{Key}
 use Rattle.model_documents.specs.declared.key.Key.TheVariants.{Own, Of, Unknown}
 use Rattle.model_documents.specs.declared.doc.DocParent.{DocParent}
-use Rattle.model_documents.specs.declared.draft.Draft.{Draft}
+use Rattle.model_documents.specs.declared.draft.ElementDraft.{ElementDraft}
 use Rattle.model_documents.specs.declared.fault.ModelFault.TheVariants.{Abstract, Bound, WrongType}
 use Rattle.finite_maps.specs.Maps.{is_within}
 use Rattle.model_documents.specs.Attributes.{is_null}
@@ -85,8 +85,8 @@ links_fit meta c f single d one h =
     plain_is meta c (links_part f single d) one (of_ok (links_part f single d) one h) (links_plain meta c f (is_null d) (entries_of single d))
 
 -- ---- numbers of rows
-pub count_ids : (ids : Ids) (rows : List Draft) → length (ids ++ ids_of rows) ≡ length ids + length rows
-count_ids ids rows = length-append ids (ids_of rows) ∙ ap (λ n. length ids + n) (length-map rows (λ (r : Draft). r.id))
+pub count_ids : (ids : Ids) (rows : List ElementDraft) → length (ids ++ ids_of rows) ≡ length ids + length rows
+count_ids ids rows = length-append ids (ids_of rows) ∙ ap (λ n. length ids + n) (length-map rows (λ (r : ElementDraft). r.id))
 
 last_ids : (ids : Ids) (id : Option IdBytes) → length (ids ++ id ∷ []) ≡ suc (length ids)
 last_ids [] id = refl
@@ -113,14 +113,15 @@ class_tested meta default o c h =
 -- ---- what the parts of a walk keep to
 -- Rows from a number on, with so many elements on top, that stand at a parent where a class is due. Further what the keys of an
 -- object of a class give whose row has a number, up to the last key.
-pub record Kept (meta : Meta) (Rows : ℕ → Option DocParent → Option ℕ → ℕ → List Draft → Type 0) (Keys : ℕ → ℕ → Option Name → Part → Type 0) : Type 0 where
+pub record Kept (meta : Meta) (Rows : ℕ → Option DocParent → Option ℕ → ℕ → List ElementDraft → Type 0)
+    (Keys : ℕ → ℕ → Option Name → Part → Type 0) : Type 0 where
   pub none : (n : ℕ) (p : Option DocParent) (t : Option ℕ) → Rows n p t 0 []
-  pub more : (n : ℕ) (p : Option DocParent) (t : Option ℕ) (k l : ℕ) (xs ys : List Draft) → parent_before n p ≡ true → Rows n p t k xs
+  pub more : (n : ℕ) (p : Option DocParent) (t : Option ℕ) (k l : ℕ) (xs ys : List ElementDraft) → parent_before n p ≡ true → Rows n p t k xs
       → Rows (n + length xs) p t l ys → Rows n p t (k + l) (xs ++ ys)
   pub begins : (c own : ℕ) → Keys c own None no_part
   pub bare : (c own : ℕ) (last : Option Name) (k : Name) (part one : Part) → Above last k → Keys c own last part → Plain meta c one
       → Keys c own (Some k) (joined part one)
-  pub holds : (c own : ℕ) (last : Option Name) (k : Name) (part : Part) (f target : ℕ) (opposite : Option ℕ) (count : ℕ) (rows : List Draft)
+  pub holds : (c own : ℕ) (last : Option Name) (k : Name) (part : Part) (f target : ℕ) (opposite : Option ℕ) (count : ℕ) (rows : List ElementDraft)
       → Above last k → Keys c own last part
       → feature_named meta c k ≡ Some f → kind_of meta f ≡ Contains target opposite → is_within count (upper_of meta f) ≡ true
       → Rows (suc own + length part.rows) (Some (record { row = own; feature = f })) (Some target) count rows
@@ -129,19 +130,19 @@ pub record Kept (meta : Meta) (Rows : ℕ → Option DocParent → Option ℕ �
       → is_concrete meta c ≡ true → may_stand meta t c ≡ true → Keys c n last part
       → Rows n p t 1 (record { id = id; class = c; parent = p; attrs = part.attrs; links = part.links } ∷ part.rows)
 
-module _ (meta : Meta) (Rows : ℕ → Option DocParent → Option ℕ → ℕ → List Draft → Type 0) (Keys : ℕ → ℕ → Option Name → Part → Type 0)
+module _ (meta : Meta) (Rows : ℕ → Option DocParent → Option ℕ → ℕ → List ElementDraft → Type 0) (Keys : ℕ → ℕ → Option Name → Part → Type 0)
     (kept : Kept meta Rows Keys) where
   -- what an object's keys come to
   abbrev Told : ℕ → ℕ → Part → Type 0
   Told c own part = (last : Option Name) × Keys c own last part
 
   -- elements under the key of a containment
-  abbrev Under : ℕ → DocParent → ℕ → List Draft → Type 0
+  abbrev Under : ℕ → DocParent → ℕ → List ElementDraft → Type 0
   Under n parent target rows = (count : ℕ) × (is_within count (upper_of meta parent.feature) ≡ true) × Rows n (Some parent) (Some target) count rows
 
   object_grows : (ids : Ids) (parent : Option DocParent) (default : Option ℕ) (ms : Members) (inside : ℕ → Ids → Read Part)
       → ((c : ℕ) (id : Option IdBytes) (part : Part) → inside c (ids ++ id ∷ []) ≡ Ok part → Told c (length ids) part)
-      → (more : List Draft) → parent_before (length ids) parent ≡ true → object_rows meta ids parent default ms inside ≡ Ok more
+      → (more : List ElementDraft) → parent_before (length ids) parent ≡ true → object_rows meta ids parent default ms inside ≡ Ok more
       → Rows (length ids) parent default 1 more
   object_grows ids parent default ms inside tells more before h =
       let class = then_ok (class_of meta default (get_member (codes "eClass") ms))
@@ -153,13 +154,13 @@ module _ (meta : Meta) (Rows : ℕ → Option DocParent → Option ℕ → ℕ �
       let tested = class_tested meta default (get_member (codes "eClass") ms) class.0 class.1 in
       let same : record { id = name.0; class = class.0; parent = parent; attrs = part.0.attrs; links = part.0.links } ∷ part.0.rows ≡ more =
       rows_ok _ more part.2 in
-      subst (λ (rows : List Draft). Rows (length ids) parent default 1 rows) same
+      subst (λ (rows : List ElementDraft). Rows (length ids) parent default 1 rows) same
       (kept.own (length ids) parent default name.0 class.0 told.0 part.0 before tested.0 tested.1 told.1)
 
   -- a key and what it gives
-  feature_grows : (c own : ℕ) (last : Option Name) (k : Name) (part : Part) (f : ℕ) (kind : Kind) (d : Data) (held : ℕ → ℕ → Read (List Draft))
+  feature_grows : (c own : ℕ) (last : Option Name) (k : Name) (part : Part) (f : ℕ) (kind : Kind) (d : Data) (held : ℕ → ℕ → Read (List ElementDraft))
       (one : Part) → Above last k → Keys c own last part → feature_named meta c k ≡ Some f → kind_of meta f ≡ kind
-      → ((target : ℕ) (rows : List Draft) → held f target ≡ Ok rows → Under (suc own + length part.rows) (record { row = own; feature = f }) target rows)
+      → ((target : ℕ) (rows : List ElementDraft) → held f target ≡ Ok rows → Under (suc own + length part.rows) (record { row = own; feature = f }) target rows)
       → feature_part meta f kind d held ≡ Ok one → Keys c own (Some k) (joined part one)
   feature_grows c own last k part f (Attr s default) d held one above so named kind under h =
       kept.bare c own last k part one above so (single_fits meta c f (named_has meta c k f named).0 s default d one kind h)
@@ -179,9 +180,10 @@ module _ (meta : Meta) (Rows : ℕ → Option DocParent → Option ℕ → ℕ �
   feature_grows c own last k part f Skip d held one above so named kind under h =
       kept.bare c own last k part one above so (plain_is meta c no_part one (of_ok no_part one h) (plain_none meta c))
 
-  key_grows : (c own : ℕ) (last : Option Name) (k : Name) (part : Part) (d : Data) (held : ℕ → ℕ → Read (List Draft)) (one : Part) → Above last k
+  key_grows : (c own : ℕ) (last : Option Name) (k : Name) (part : Part) (d : Data) (held : ℕ → ℕ → Read (List ElementDraft)) (one : Part) → Above last k
       → Keys c own last part
-      → ((f target : ℕ) (rows : List Draft) → held f target ≡ Ok rows → Under (suc own + length part.rows) (record { row = own; feature = f }) target rows)
+      → ((f target : ℕ) (rows : List ElementDraft) → held f target ≡ Ok rows
+      → Under (suc own + length part.rows) (record { row = own; feature = f }) target rows)
       → key_part meta (key_named meta c k) d held ≡ Ok one → Keys c own (Some k) (joined part one)
   key_grows c own last k part d held one above so under h = by_key (key_named meta c k) refl h
     where
@@ -209,7 +211,7 @@ module _ (meta : Meta) (Rows : ℕ → Option DocParent → Option ℕ → ℕ �
   mutual
     unfolding element_rows items_rows members_rows held_rows
 
-    element_grows : (ids : Ids) (parent : Option DocParent) (default : Option ℕ) (d : Data) (more : List Draft) → Trim d
+    element_grows : (ids : Ids) (parent : Option DocParent) (default : Option ℕ) (d : Data) (more : List ElementDraft) → Trim d
         → parent_before (length ids) parent ≡ true → element_rows meta ids parent default d ≡ Ok more
         → Rows (length ids) parent default 1 more
     element_grows ids parent default (object ms) more trim before h =
@@ -221,12 +223,12 @@ module _ (meta : Meta) (Rows : ℕ → Option DocParent → Option ℕ → ℕ �
     element_grows ids parent default (string s) more trim before h = cc
     element_grows ids parent default (array ds) more trim before h = cc
 
-    items_grows : (ids : Ids) (parent : Option DocParent) (default : Option ℕ) (k : ℕ) (rows : List Draft) (ds : Items) (more : List Draft)
+    items_grows : (ids : Ids) (parent : Option DocParent) (default : Option ℕ) (k : ℕ) (rows : List ElementDraft) (ds : Items) (more : List ElementDraft)
         → TrimItems ds → parent_before (length ids) parent ≡ true → Rows (length ids) parent default k rows
         → items_rows meta ids parent default rows ds ≡ Ok more → Rows (length ids) parent default (k + length (list_of ds)) more
     items_grows ids parent default k rows no_items more trim before so h =
         subst (λ n. Rows (length ids) parent default n more) (no_more k)
-        (subst (λ (rs : List Draft). Rows (length ids) parent default k rs) (rows_ok rows more h) so)
+        (subst (λ (rs : List ElementDraft). Rows (length ids) parent default k rs) (rows_ok rows more h) so)
     items_grows ids parent default k rows (item d ds) more trim before so h =
         let one = then_ok (element_rows meta (ids ++ ids_of rows) parent default d) (λ more. items_rows meta ids parent default (rows ++ more) ds) more h in
         let grown = subst (λ n. Rows n parent default 1 one.0) (count_ids ids rows)
@@ -239,7 +241,7 @@ module _ (meta : Meta) (Rows : ℕ → Option DocParent → Option ℕ → ℕ �
         → length ids ≡ suc own → Keys c own last part → members_rows meta c own ids part ms ≡ Ok more → Told c own more
     members_grows c own ids last part no_members more trim long so h = subst (λ (p : Part). Told c own p) (of_ok part more h) (last, so)
     members_grows c own ids last part (member k d ms) more trim long so h =
-        let held : ℕ → ℕ → Read (List Draft) = λ f target. held_rows meta (ids ++ ids_of part.rows) (record { row = own; feature = f }) target d in
+        let held : ℕ → ℕ → Read (List ElementDraft) = λ f target. held_rows meta (ids ++ ids_of part.rows) (record { row = own; feature = f }) target d in
         let one = then_ok (key_part meta (key_named meta c k) d held) (λ more. members_rows meta c own ids (joined part more) ms) more h in
         members_grows c own ids (Some k) (joined part one.0) ms more trim.2 long
         (key_grows c own last k part d held one.0 trim.0 so
@@ -250,12 +252,12 @@ module _ (meta : Meta) (Rows : ℕ → Option DocParent → Option ℕ → ℕ �
         (still_before ids part.rows (Some p) (ap (λ n. parent_before n (Some p)) long ∙ own_before own p refl)) e))
         one.1) one.2
 
-    held_grows : (ids : Ids) (parent : DocParent) (target : ℕ) (d : Data) (more : List Draft) → Trim d
+    held_grows : (ids : Ids) (parent : DocParent) (target : ℕ) (d : Data) (more : List ElementDraft) → Trim d
         → parent_before (length ids) (Some parent) ≡ true → held_rows meta ids parent target d ≡ Ok more → Under (length ids) parent target more
     held_grows ids parent target null more trim before h = (
       0,
       none_within (upper_of meta parent.feature),
-      subst (λ (rs : List Draft). Rows (length ids) (Some parent) (Some target) 0 rs) (rows_ok [] more h)
+      subst (λ (rs : List ElementDraft). Rows (length ids) (Some parent) (Some target) 0 rs) (rows_ok [] more h)
           (kept.none (length ids) (Some parent) (Some target)),
     )
     held_grows ids parent target (object ms) more trim before h =
@@ -281,7 +283,7 @@ module _ (meta : Meta) (Rows : ℕ → Option DocParent → Option ℕ → ℕ �
     held_grows ids parent target (number n) more trim before h = cc
     held_grows ids parent target (string s) more trim before h = cc
 
-  pub walked_grows : (d : Data) (more : List Draft) → Trim d → walked meta d ≡ Ok more → (k : ℕ) × Rows 0 None None k more
+  pub walked_grows : (d : Data) (more : List ElementDraft) → Trim d → walked meta d ≡ Ok more → (k : ℕ) × Rows 0 None None k more
   walked_grows (array ds) more trim h = (0 + length (list_of ds), items_grows [] None None 0 [] ds more trim refl (kept.none 0 None None) h)
   walked_grows (object ms) more trim h = (1, element_grows [] None None (object ms) more trim refl h)
   walked_grows null more trim h = cc

@@ -7,20 +7,20 @@ use Rattle.ecore_json.specs.References.{after_prefix}
 use Rattle.ecore_meta.specs.Names.{Name}
 use Rattle.model_state.specs.Typing.{is_containment, kind_of, upper_of}
 use Rattle.model_documents.specs.declared.doc.DocParent.{DocParent}
-use Rattle.model_documents.specs.declared.draft.Draft.{Draft}
+use Rattle.model_documents.specs.declared.draft.ElementDraft.{ElementDraft}
 use Rattle.ecore_meta.specs.Typing.{is_one}
 use Rattle.model_documents.specs.References.{along, along_parts, bare, child_by, child_named, index_of, located, located_by, number_of, root_at, step_from}
 use Rattle.model_documents.specs.Places.{child_at, class_at, has_id, numbers_where, stands_in}
 use Rattle.model_documents.proofs.Keys.{and_then_some}
 
 -- the number is that of a row
-abbrev pub IsRow : List Draft → ℕ → Type 0
-IsRow rows n = (d : Draft) × (slice_get rows n ≡ Some d)
+abbrev pub IsRow : List ElementDraft → ℕ → Type 0
+IsRow rows n = (d : ElementDraft) × (slice_get rows n ≡ Some d)
 
-abbrev Numbered : ℕ → List Draft → ℕ → Type 0
-Numbered n rows m = (j : ℕ) × (d : Draft) × (m ≡ n + j) × (slice_get rows j ≡ Some d)
+abbrev Numbered : ℕ → List ElementDraft → ℕ → Type 0
+Numbered n rows m = (j : ℕ) × (d : ElementDraft) × (m ≡ n + j) × (slice_get rows j ≡ Some d)
 
-numbers_row : (p : Draft → Bool) (n : ℕ) (rows : List Draft) (k m : ℕ) → slice_get (numbers_where p n rows) k ≡ Some m → Numbered n rows m
+numbers_row : (p : ElementDraft → Bool) (n : ℕ) (rows : List ElementDraft) (k m : ℕ) → slice_get (numbers_where p n rows) k ≡ Some m → Numbered n rows m
 numbers_row p n [] k m h = cc
 numbers_row p n (r ∷ rows) k m h = by_test (p r) k h (λ i e. behind_it (numbers_row p (suc n) rows i m e))
   where
@@ -39,7 +39,7 @@ numbers_row p n (r ∷ rows) k m h = by_test (p r) k h (λ i e. behind_it (numbe
     by_test true (suc k) h later = later k h
     by_test false k h later = later k h
 
-row_of_numbers : (p : Draft → Bool) (rows : List Draft) (k m : ℕ) → slice_get (numbers_where p 0 rows) k ≡ Some m → IsRow rows m
+row_of_numbers : (p : ElementDraft → Bool) (rows : List ElementDraft) (k m : ℕ) → slice_get (numbers_where p 0 rows) k ≡ Some m → IsRow rows m
 row_of_numbers p rows k m h =
     let at = numbers_row p 0 rows k m h in
     (at.1, ap (slice_get rows) (at.2 ∙ none at.0) ∙ at.3)
@@ -47,7 +47,7 @@ row_of_numbers p rows k m h =
     none : (j : ℕ) → 0 + j ≡ j
     none j = omega arith
 
-module _ (meta : Meta) (rows : List Draft) where
+module _ (meta : Meta) (rows : List ElementDraft) where
   child_row : (place : Option DocParent) (k m : ℕ) → child_at rows place k ≡ Some m → IsRow rows m
   child_row place k m h = row_of_numbers (stands_in place) rows k m h
 

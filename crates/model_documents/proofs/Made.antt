@@ -10,9 +10,9 @@ use Rattle.ecore_meta.specs.declared.meta.Kind.TheVariants.{Attr, AttrMany, Boun
 use Rattle.model_state.specs.Typing.{has_feature, is_plain, kind_of, links, opposite_of, plain_to}
 use Rattle.model_documents.specs.declared.doc.DocRefs.{DocRefs}
 use Rattle.model_documents.specs.declared.doc.DocRow.{DocRow}
-use Rattle.model_documents.specs.declared.draft.Draft.{Draft}
+use Rattle.model_documents.specs.declared.draft.ElementDraft.{ElementDraft}
 use Rattle.model_documents.specs.Fits.{Follows, RefsFit, TargetFits, numbers_differ}
-use Rattle.model_documents.specs.Merged.{given_at, merged, merged_all, naming, next_row, others, row_of, rows_by, targets_at}
+use Rattle.model_documents.specs.Completed.{given_at, completed, completed_all, naming, next_row, others, row_of, rows_by, targets_at}
 use Rattle.model_documents.specs.Reads.{Read}
 use Rattle.model_documents.specs.References.{given_by}
 use Rattle.model_documents.proofs.Apart.{then_ok}
@@ -33,7 +33,7 @@ plain_kind meta (Contains t o) d h = cc
 plain_kind meta (Container t o) d h = cc
 plain_kind meta Skip d h = cc
 
-features_are : (meta : Meta) (drafts : List Draft) (n : ℕ) (fs : List ℕ) (refs : List DocRefs) → Paired (λ k f q. ListFits meta drafts f q) n fs refs
+features_are : (meta : Meta) (drafts : List ElementDraft) (n : ℕ) (fs : List ℕ) (refs : List DocRefs) → Paired (λ k f q. ListFits meta drafts f q) n fs refs
     → features refs ≡ fs
 features_are meta drafts n [] [] p = refl
 features_are meta drafts n [] (q ∷ refs) p = absurd p
@@ -41,8 +41,8 @@ features_are meta drafts n (f ∷ fs) [] p = absurd p
 features_are meta drafts n (f ∷ fs) (q ∷ refs) p = ap₂ (λ x xs. x ∷ xs) (sym p.0.0) (features_are meta drafts (suc n) fs refs p.1)
 
 -- a row of that number, by its draft and its lists
-pub record Made (meta : Meta) (drafts : List Draft) (given : List (List DocRefs)) (n : ℕ) (w : DocRow) : Type 0 where
-  pub draft : Draft
+pub record Made (meta : Meta) (drafts : List ElementDraft) (given : List (List DocRefs)) (n : ℕ) (w : DocRow) : Type 0 where
+  pub draft : ElementDraft
   pub drafted : slice_get drafts n ≡ Some draft
   pub lists : List DocRefs
   pub given_there : slice_get given n ≡ Some lists
@@ -50,17 +50,17 @@ pub record Made (meta : Meta) (drafts : List Draft) (given : List (List DocRefs)
   pub merged : Paired (λ k q m. IsMerged meta given n q m) 0 lists w.refs
   pub same : row_of meta draft w.refs ≡ w
 
-module _ (meta : Meta) (promised : IsMetamodel meta) (drafts : List Draft) (given : List (List DocRefs)) (rows : List DocRow)
+module _ (meta : Meta) (promised : IsMetamodel meta) (drafts : List ElementDraft) (given : List (List DocRefs)) (rows : List DocRow)
     (gives : given_by meta drafts ≡ Ok given) (makes : rows_by meta given drafts ≡ Ok rows) where
-  abbrev MadeOf : ℕ → Draft → DocRow → Type 0
-  MadeOf n r w = (merged_all meta given n (given_at given n) ≡ Ok w.refs) × (row_of meta r w.refs ≡ w)
+  abbrev MadeOf : ℕ → ElementDraft → DocRow → Type 0
+  MadeOf n r w = (completed_all meta given n (given_at given n) ≡ Ok w.refs) × (row_of meta r w.refs ≡ w)
 
   row_ok : (x y : DocRow) → ◌≡◌ {A = Read DocRow} (Ok x) (Ok y) → x ≡ y
   row_ok x y h = cc
 
-  one_made : (before : List DocRow) (r : Draft) (w : DocRow) → next_row meta given before r ≡ Ok w → MadeOf (length before) r w
+  one_made : (before : List DocRow) (r : ElementDraft) (w : DocRow) → next_row meta given before r ≡ Ok w → MadeOf (length before) r w
   one_made before r w h =
-      let refs = then_ok (merged_all meta given (length before) (given_at given (length before))) (λ refs. Ok (row_of meta r refs)) w h in
+      let refs = then_ok (completed_all meta given (length before) (given_at given (length before))) (λ refs. Ok (row_of meta r refs)) w h in
       let same : row_of meta r refs.0 ≡ w = row_ok (row_of meta r refs.0) w refs.2 in
       subst (MadeOf (length before) r) same (refs.1, refl)
 
@@ -82,24 +82,24 @@ module _ (meta : Meta) (promised : IsMetamodel meta) (drafts : List Draft) (give
         lists = lists.0;
         given_there = lists.1;
         fit = lists.2;
-        merged = merged_pairs meta given n lists.0 w.refs (ap (merged_all meta given n) (sym here) ∙ of.0);
+        merged = merged_pairs meta given n lists.0 w.refs (ap (completed_all meta given n) (sym here) ∙ of.0);
         same = of.1;
       }
 
   -- the row of a draft
-  pub row_at : (n : ℕ) (d : Draft) → slice_get drafts n ≡ Some d → (w : DocRow) × (slice_get rows n ≡ Some w) × (w.class ≡ d.class)
+  pub row_at : (n : ℕ) (d : ElementDraft) → slice_get drafts n ≡ Some d → (w : DocRow) × (slice_get rows n ≡ Some w) × (w.class ≡ d.class)
   row_at n d at =
       let to = pair_forth MadeOf 0 drafts rows n d pairs at in
       (to.0, to.1, ap (λ (w : DocRow). w.class) (sym to.2.1))
 
-  some_draft : (n : ℕ) (d e : Draft) → slice_get drafts n ≡ Some d → slice_get drafts n ≡ Some e → d ≡ e
+  some_draft : (n : ℕ) (d e : ElementDraft) → slice_get drafts n ≡ Some d → slice_get drafts n ≡ Some e → d ≡ e
   some_draft n d e h g = let same : Some d ≡ Some e = sym h ∙ g in cc
 
   some_lists : (n : ℕ) (xs ys : List DocRefs) → slice_get given n ≡ Some xs → slice_get given n ≡ Some ys → xs ≡ ys
   some_lists n xs ys h g = let same : Some xs ≡ Some ys = sym h ∙ g in cc
 
   -- an element that gives another as a target by the opposite of f may be a target of it by f
-  back : (r b : Draft) (refs : List DocRefs) (n f g : ℕ) → opposite_of meta f ≡ Some g → ListsFit meta drafts b refs → slice_get drafts n ≡ Some r
+  back : (r b : ElementDraft) (refs : List DocRefs) (n f g : ℕ) → opposite_of meta f ≡ Some g → ListsFit meta drafts b refs → slice_get drafts n ≡ Some r
       → has (targets_at g refs) n ≡ true → links meta r.class f b.class ≡ true
   back r b refs n f g other fit at names =
       let typed = given_typed meta drafts 0 (plain_of meta b.class) refs g n fit names in
@@ -107,7 +107,7 @@ module _ (meta : Meta) (promised : IsMetamodel meta) (drafts : List Draft) (give
       let same : typed.1.0 ≡ r = some_draft n typed.1.0 r typed.1.1 at in
       let linked : links meta b.class g r.class ≡ true =
       and_both (has_feature meta b.class g) (plain_to meta (kind_of meta g) r.class) plain.1
-      (subst (λ (x : Draft). plain_to meta (kind_of meta g) x.class ≡ true) same typed.1.2) in
+      (subst (λ (x : ElementDraft). plain_to meta (kind_of meta g) x.class ≡ true) same typed.1.2) in
       promised.sound.mirrors b.class g r.class f (promised.sound.both f g other) linked
 
   -- ---- the lists of a row
@@ -127,7 +127,7 @@ module _ (meta : Meta) (promised : IsMetamodel meta) (drafts : List Draft) (give
     pub refs_in_order : Follows (features w.refs) (features_of meta c)
     refs_in_order = subst (λ fs. Follows fs (features_of meta c)) (sym features_of_row) (plain_in_order meta c)
 
-    target_at : (f b : ℕ) (d : Draft) → slice_get drafts b ≡ Some d → links meta c f d.class ≡ true → TargetFits meta rows c f b
+    target_at : (f b : ℕ) (d : ElementDraft) → slice_get drafts b ≡ Some d → links meta c f d.class ≡ true → TargetFits meta rows c f b
     target_at f b d at linked =
         let row = row_at b d at in
         (row.0, row.1, ap (links meta c f) row.2 ∙ linked)
@@ -165,7 +165,7 @@ module _ (meta : Meta) (promised : IsMetamodel meta) (drafts : List Draft) (give
               ]);
         }
 
-    merged_is : (f : ℕ) → has (plain_of meta c) f ≡ true → targets_at f w.refs ≡ merged meta given n (record { feature = f; targets = targets_at f m.lists })
+    merged_is : (f : ℕ) → has (plain_of meta c) f ≡ true → targets_at f w.refs ≡ completed meta given n (record { feature = f; targets = targets_at f m.lists })
     merged_is f h = merged_list meta given n 0 m.lists w.refs f m.merged (ap (λ (fs : List ℕ). has fs f) lists_are ∙ h)
 
   -- ---- both sides of an opposite

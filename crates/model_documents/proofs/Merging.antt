@@ -11,7 +11,7 @@ use Rattle.model_documents.specs.declared.doc.DocRefs.{DocRefs}
 use Rattle.model_documents.specs.declared.fault.ModelFault.TheVariants.{Bound}
 use Rattle.finite_maps.specs.Maps.{is_within}
 use Rattle.model_documents.specs.Fits.{numbers_differ}
-use Rattle.model_documents.specs.Merged.{merged, merged_all, merged_at, merged_within, naming, others, targets_at}
+use Rattle.model_documents.specs.Completed.{completed, completed_all, completed_at, completed_within, naming, others, targets_at}
 use Rattle.model_documents.specs.Reads.{Read}
 use Rattle.model_documents.proofs.Apart.{then_ok, unless_ok, unless_true}
 use Rattle.model_documents.proofs.Numbers.{apart_append, has, not_is, not_not, or_split}
@@ -114,7 +114,7 @@ others_apart (Some g) a ts given h = named_apart g a ts given h
 -- a list with those that name the element by the opposite
 pub record IsMerged (meta : Meta) (given : List (List DocRefs)) (a : ℕ) (q m : DocRefs) : Type 0 where
   pub feature : q.feature ≡ m.feature
-  pub targets : m.targets ≡ merged meta given a q
+  pub targets : m.targets ≡ completed meta given a q
   pub within : is_within (length m.targets) (row_upper meta m.feature) ≡ true
 
 module _ (meta : Meta) (given : List (List DocRefs)) (a : ℕ) where
@@ -124,19 +124,19 @@ module _ (meta : Meta) (given : List (List DocRefs)) (a : ℕ) where
   list_ok : (p q : DocRefs) → ◌≡◌ {A = Read DocRefs} (Ok p) (Ok q) → p ≡ q
   list_ok p q h = cc
 
-  merged_one : (q m : DocRefs) → merged_at meta given a [] q ≡ Ok m → IsMerged meta given a q m
+  merged_one : (q m : DocRefs) → completed_at meta given a [] q ≡ Ok m → IsMerged meta given a q m
   merged_one q m h =
-      let ts = then_ok (merged_within meta given a q) (λ ts. Ok (record { feature = q.feature; targets = ts })) m h in
+      let ts = then_ok (completed_within meta given a q) (λ ts. Ok (record { feature = q.feature; targets = ts })) m h in
       let same : record { feature = q.feature; targets = ts.0 } ≡ m = list_ok (record { feature = q.feature; targets = ts.0 }) m ts.2 in
-      let is : merged meta given a q ≡ ts.0 =
-      numbers_ok (merged meta given a q) ts.0
-      (unless_ok (is_within (length (merged meta given a q)) (row_upper meta q.feature)) Bound (Ok (merged meta given a q)) ts.0 ts.1) in
-      let within = unless_true (is_within (length (merged meta given a q)) (row_upper meta q.feature)) Bound (Ok (merged meta given a q)) ts.0 ts.1 in
+      let is : completed meta given a q ≡ ts.0 =
+      numbers_ok (completed meta given a q) ts.0
+      (unless_ok (is_within (length (completed meta given a q)) (row_upper meta q.feature)) Bound (Ok (completed meta given a q)) ts.0 ts.1) in
+      let within = unless_true (is_within (length (completed meta given a q)) (row_upper meta q.feature)) Bound (Ok (completed meta given a q)) ts.0 ts.1 in
       subst (IsMerged meta given a q) same
       (record { feature = refl; targets = sym is; within = ap (λ (xs : List ℕ). is_within (length xs) (row_upper meta q.feature)) (sym is) ∙ within })
 
-  pub merged_pairs : (refs ms : List DocRefs) → merged_all meta given a refs ≡ Ok ms → Paired (λ k q m. IsMerged meta given a q m) 0 refs ms
-  merged_pairs refs ms h = all_pairs (λ k q m. IsMerged meta given a q m) (merged_at meta given a) (λ bs q m e. merged_one q m e) refs ms h
+  pub merged_pairs : (refs ms : List DocRefs) → completed_all meta given a refs ≡ Ok ms → Paired (λ k q m. IsMerged meta given a q m) 0 refs ms
+  merged_pairs refs ms h = all_pairs (λ k q m. IsMerged meta given a q m) (completed_at meta given a) (λ bs q m e. merged_one q m e) refs ms h
 
   pub features_same : (n : ℕ) (refs ms : List DocRefs) → Paired (λ k q m. IsMerged meta given a q m) n refs ms → features ms ≡ features refs
   features_same n [] [] p = refl
@@ -146,24 +146,24 @@ module _ (meta : Meta) (given : List (List DocRefs)) (a : ℕ) where
 
   -- the merged list of a feature
   pub merged_list : (n : ℕ) (refs ms : List DocRefs) (f : ℕ) → Paired (λ k q m. IsMerged meta given a q m) n refs ms → has (features refs) f ≡ true
-      → targets_at f ms ≡ merged meta given a (record { feature = f; targets = targets_at f refs })
+      → targets_at f ms ≡ completed meta given a (record { feature = f; targets = targets_at f refs })
   merged_list n [] ms f p h = cc
   merged_list n (q ∷ refs) [] f p h = absurd p
   merged_list n (q ∷ refs) (m ∷ ms) f p h = by_test (nat_eq f q.feature) refl h (λ e. merged_list (suc n) refs ms f p.1 e)
     where
       by_test : (t : Bool) → nat_eq f q.feature ≡ t → t || has (features refs) f ≡ true
-          → (has (features refs) f ≡ true → targets_at f ms ≡ merged meta given a (record { feature = f; targets = targets_at f refs }))
-          → cond (nat_eq f m.feature) m.targets (targets_at f ms) ≡ merged meta given a
+          → (has (features refs) f ≡ true → targets_at f ms ≡ completed meta given a (record { feature = f; targets = targets_at f refs }))
+          → cond (nat_eq f m.feature) m.targets (targets_at f ms) ≡ completed meta given a
           (record { feature = f; targets = cond (nat_eq f q.feature) q.targets (targets_at f refs) })
       by_test true is h later =
           ap (λ b. cond b m.targets (targets_at f ms)) (ap (nat_eq f) (sym p.0.feature) ∙ is)
           ∙ p.0.targets
-          ∙ ap (λ x. merged meta given a (record { feature = x; targets = q.targets })) (sym (nat_equality.exact f q.feature is))
-          ∙ ap (λ b. merged meta given a (record { feature = f; targets = cond b q.targets (targets_at f refs) })) (sym is)
+          ∙ ap (λ x. completed meta given a (record { feature = x; targets = q.targets })) (sym (nat_equality.exact f q.feature is))
+          ∙ ap (λ b. completed meta given a (record { feature = f; targets = cond b q.targets (targets_at f refs) })) (sym is)
       by_test false is h later =
           ap (λ b. cond b m.targets (targets_at f ms)) (ap (nat_eq f) (sym p.0.feature) ∙ is)
           ∙ later h
-          ∙ ap (λ b. merged meta given a (record { feature = f; targets = cond b q.targets (targets_at f refs) })) (sym is)
+          ∙ ap (λ b. completed meta given a (record { feature = f; targets = cond b q.targets (targets_at f refs) })) (sym is)
 
 -- a list with targets is that of a feature
 pub listed : (refs : List DocRefs) (f b : ℕ) → has (targets_at f refs) b ≡ true → has (features refs) f ≡ true

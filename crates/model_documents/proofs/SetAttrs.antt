@@ -5,7 +5,7 @@ use Rattle.std.proofs.lemmas.List.{map-append}
 use Rattle.finite_maps.proofs.EqualLaws.{nat_equality}
 use Rattle.model_documents.specs.declared.doc.DocAttr.{DocAttr}
 use Rattle.model_documents.specs.Fits.{Follows, numbers_differ}
-use Rattle.model_documents.specs.Merged.{attr_at, attrs_by}
+use Rattle.model_documents.specs.Completed.{attr_at, attrs_by}
 use Rattle.model_documents.proofs.Every.{every_append}
 use Rattle.model_documents.proofs.InOrder.{OneOrNone, follows_differ, one_first}
 

@@ -13,8 +13,8 @@ use Rattle.ecore_meta.specs.declared.meta.Value.{Value}
 use Rattle.model_state.specs.Good.{ValuesOk, is_distinct}
 use Rattle.model_state.specs.Typing.{fits, has_feature, is_default, kind_of, upper_of, value_eq}
 use Rattle.model_state.proofs.StepTests.{value_equality}
-use Rattle.emfjson_io.specs.Values.{value_in}
-use Rattle.emfjson_io.proofs.Fits.{in_type}
+use Rattle.emfjson_values.specs.Values.{value_in}
+use Rattle.emfjson_values.proofs.Fits.{in_type}
 use Rattle.model_documents.specs.declared.doc.DocAttr.{DocAttr}
 use Rattle.model_documents.specs.declared.fault.ModelFault.TheVariants.{BadValue, Bound}
 use Rattle.finite_maps.specs.Maps.{is_within}

@@ -9,7 +9,7 @@ use Rattle.ecore_meta.specs.Meta.{Meta}
 use Rattle.ecore_meta.specs.declared.meta.Scalar.{Scalar}
 use Rattle.ecore_meta.specs.declared.meta.Value.{Value}
 use Rattle.model_state.specs.Typing.{is_default, kind_of, upper_of, value_eq}
-use Rattle.emfjson_io.specs.Values.{value_in}
+use Rattle.emfjson_values.specs.Values.{value_in}
 use Rattle.model_documents.specs.declared.fault.ModelFault.TheVariants.{BadValue, Bound}
 use Rattle.model_documents.specs.Parts.{Part, no_part}
 use Rattle.model_documents.specs.Reads.{Read, «then», unless, found, collected}

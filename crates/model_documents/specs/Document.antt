@@ -4,15 +4,15 @@ use Rattle.serde_json.specs.Data.{Data}
 use Rattle.serde_json.specs.Read.{read}
 use Rattle.ecore_meta.specs.Meta.{Meta}
 use Rattle.model_documents.specs.declared.doc.DocRow.{DocRow}
-use Rattle.model_documents.specs.declared.draft.Draft.{Draft}
+use Rattle.model_documents.specs.declared.draft.ElementDraft.{ElementDraft}
 use Rattle.model_documents.specs.declared.fault.ModelFault.TheVariants.{NotJson}
 use Rattle.model_documents.specs.Reads.{Read, «then»}
 use Rattle.model_documents.specs.Walk.{walked}
 use Rattle.model_documents.specs.References.{given_by}
-use Rattle.model_documents.specs.Merged.{rows_by}
+use Rattle.model_documents.specs.Completed.{rows_by}
 
 -- the references of the elements are looked up, and then merged
-abbrev pub resolved : Meta → List Draft → Read (List DocRow)
+abbrev pub resolved : Meta → List ElementDraft → Read (List DocRow)
 resolved meta drafts = «then» (given_by meta drafts) (λ given. rows_by meta given drafts)
 
 -- the elements that a document describes, or its first fault; None is a text that is no JSON

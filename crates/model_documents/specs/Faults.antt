@@ -5,15 +5,15 @@ use Rattle.model_documents.specs.declared.fault.ModelFault.TheVariants.{NotJson,
 use Rattle.model_documents.specs.declared.fault.ModelFault.TheVariants.{WrongType, Memory}
 
 -- the number of a fault in a reply
-abbrev pub fault_number : ModelFault → ℕ
-fault_number NotJson = 1
-fault_number NoClass = 2
-fault_number Abstract = 3
-fault_number NoFeature = 4
-fault_number BadValue = 5
-fault_number BadRef = 6
-fault_number DupId = 7
-fault_number BadId = 8
-fault_number Bound = 9
-fault_number WrongType = 10
-fault_number Memory = 11
+abbrev pub model_fault_number : ModelFault → ℕ
+model_fault_number NotJson = 1
+model_fault_number NoClass = 2
+model_fault_number Abstract = 3
+model_fault_number NoFeature = 4
+model_fault_number BadValue = 5
+model_fault_number BadRef = 6
+model_fault_number DupId = 7
+model_fault_number BadId = 8
+model_fault_number Bound = 9
+model_fault_number WrongType = 10
+model_fault_number Memory = 11

@@ -5,7 +5,7 @@ use Rattle.std.specs.Ordering.{nat_cmp, ordering_then}
 use Rattle.std.specs.BTreeMap.{BTreeMap, get, get_by_text}
 use Rattle.model_state.specs.Keys.{IdBytes}
 use Rattle.model_documents.specs.declared.doc.DocParent.{DocParent}
-use Rattle.model_documents.specs.declared.draft.Draft.{Draft}
+use Rattle.model_documents.specs.declared.draft.ElementDraft.{ElementDraft}
 use Rattle.model_documents.specs.Places.{named, numbers_where, stands_in}
 
 -- the first, where there is one
@@ -22,15 +22,15 @@ abbrev pub numbers_at : BTreeMap (ℕ × ℕ) (List ℕ) → DocParent → List 
 numbers_at children p = unwrap_or (get place_cmp children (p.row, p.feature)) []
 
 -- the map has the number of the row of each id
-abbrev pub NamesOf : {Y : Type 0} → List Draft → BTreeMap (String Y) ℕ → Type 0
+abbrev pub NamesOf : {Y : Type 0} → List ElementDraft → BTreeMap (String Y) ℕ → Type 0
 NamesOf rows names = (t : IdBytes) → get_by_text names t ≡ named rows t
 
 -- the map has the numbers of the rows in each place
-abbrev pub ChildrenOf : List Draft → BTreeMap (ℕ × ℕ) (List ℕ) → Type 0
+abbrev pub ChildrenOf : List ElementDraft → BTreeMap (ℕ × ℕ) (List ℕ) → Type 0
 ChildrenOf rows children = (q : DocParent) → numbers_at children q ≡ numbers_where (stands_in (Some q)) 0 rows
 
 -- rows are found by their ids and by their places
-pub record Finds {Y : Type 0} (rows : List Draft) (names : BTreeMap (String Y) ℕ) (children : BTreeMap (ℕ × ℕ) (List ℕ)) (roots : List ℕ) : Type 0 where
+pub record Finds {Y : Type 0} (rows : List ElementDraft) (names : BTreeMap (String Y) ℕ) (children : BTreeMap (ℕ × ℕ) (List ℕ)) (roots : List ℕ) : Type 0 where
   pub by_name : NamesOf rows names
   pub by_place : ChildrenOf rows children
   pub at_root : roots ≡ numbers_where (stands_in None) 0 rows

@@ -13,7 +13,7 @@ use Rattle.model_documents.specs.declared.doc.DocRefs.{DocRefs}
 use Rattle.model_documents.specs.declared.doc.DocRow.{DocRow}
 use Rattle.model_documents.specs.Document.{doc_of}
 use Rattle.model_documents.specs.Laws.{parents_before, ids_repeat}
-use Rattle.model_documents.specs.Merged.{targets_at}
+use Rattle.model_documents.specs.Completed.{targets_at}
 use Rattle.model_documents.specs.Places.{parent_eq}
 
 -- no number comes twice

@@ -10,5 +10,5 @@ pub mod Walk
 pub mod Document
 pub mod Fits
 pub mod Laws
-pub mod Merged
+pub mod Completed
 pub mod References

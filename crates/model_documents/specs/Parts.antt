@@ -2,14 +2,14 @@
 use Rattle.std.specs.Prelude.{List, [], ◌++◌, Option, map}
 use Rattle.model_state.specs.Keys.{IdBytes}
 use Rattle.model_documents.specs.declared.doc.DocAttr.{DocAttr}
-use Rattle.model_documents.specs.declared.draft.Draft.{Draft}
+use Rattle.model_documents.specs.declared.draft.ElementDraft.{ElementDraft}
 use Rattle.model_documents.specs.declared.draft.Links.{Links}
 
 -- values of attributes, references, and the elements inside
 pub record Part : Type 0 where
   pub attrs : List DocAttr
   pub links : List Links
-  pub rows : List Draft
+  pub rows : List ElementDraft
 
 -- nothing is given
 abbrev pub no_part : Part
@@ -24,5 +24,5 @@ abbrev pub Ids : Type 0
 Ids = List (Option IdBytes)
 
 -- the ids of the rows
-abbrev pub ids_of : List Draft → Ids
+abbrev pub ids_of : List ElementDraft → Ids
 ids_of rows = map (λ r. r.id) rows

@@ -12,7 +12,7 @@ use Rattle.model_state.specs.Keys.{IdBytes}
 use Rattle.model_state.specs.Typing.{kind_of, upper_of}
 use Rattle.ecore_json.specs.Rows.{list_of}
 use Rattle.model_documents.specs.declared.doc.DocParent.{DocParent}
-use Rattle.model_documents.specs.declared.draft.Draft.{Draft}
+use Rattle.model_documents.specs.declared.draft.ElementDraft.{ElementDraft}
 use Rattle.model_documents.specs.declared.fault.ModelFault.{ModelFault}
 use Rattle.model_documents.specs.declared.fault.ModelFault.TheVariants.{NoClass, NoFeature, Bound, WrongType}
 use Rattle.model_documents.specs.declared.key.Key.{Key}
@@ -35,11 +35,11 @@ abbrev pub key_named : Meta → ℕ → Name → Key
 key_named meta c k = cond (bytes_eq k (codes "eClass") || bytes_eq k (codes "_id")) Own (feature_key (feature_named meta c k))
 
 -- the elements inside
-abbrev pub rows_part : List Draft → Part
+abbrev pub rows_part : List ElementDraft → Part
 rows_part rows = record no_part { rows = rows }
 
 -- what a feature's key gives; held reads the elements inside
-abbrev pub feature_part : Meta → ℕ → Kind → Data → (ℕ → ℕ → Read (List Draft)) → Read Part
+abbrev pub feature_part : Meta → ℕ → Kind → Data → (ℕ → ℕ → Read (List ElementDraft)) → Read Part
 feature_part meta f (Attr s default) d held = single_part meta f s d
 feature_part meta f (AttrMany s unique) d held = many_part meta f s unique d
 feature_part meta f (Bounded target opposite) d held = Ok (links_part f (is_one (upper_of meta f)) d)
@@ -49,17 +49,17 @@ feature_part meta f (Container target opposite) d held = Ok no_part
 feature_part meta f Skip d held = Ok no_part
 
 -- what a key gives: an unknown one is a fault, and one that is read first gives nothing more
-abbrev pub key_part : Meta → Key → Data → (ℕ → ℕ → Read (List Draft)) → Read Part
+abbrev pub key_part : Meta → Key → Data → (ℕ → ℕ → Read (List ElementDraft)) → Read Part
 key_part meta Unknown d held = Err NoFeature
 key_part meta Own d held = Ok no_part
 key_part meta (Of f) d held = feature_part meta f (kind_of meta f) d held
 
 -- an object's own row before those inside it
-abbrev pub own_rows : Option DocParent → Option IdBytes → ℕ → Read Part → Read (List Draft)
+abbrev pub own_rows : Option DocParent → Option IdBytes → ℕ → Read Part → Read (List ElementDraft)
 own_rows parent id c inside = «then» inside (λ part. Ok (record { id = id; class = c; parent = parent; attrs = part.attrs; links = part.links } ∷ part.rows))
 
 -- the rows of an object: its own, and those inside
-abbrev pub object_rows : Meta → Ids → Option DocParent → Option ℕ → Members → (ℕ → Ids → Read Part) → Read (List Draft)
+abbrev pub object_rows : Meta → Ids → Option DocParent → Option ℕ → Members → (ℕ → Ids → Read Part) → Read (List ElementDraft)
 object_rows meta ids parent default ms inside =
     «then» (class_of meta default (get_member (codes "eClass") ms)) (λ c.
     «then» (id_of ids (get_member (codes "_id") ms)) (λ id. own_rows parent id c (inside c (ids ++ id ∷ []))))
@@ -71,7 +71,7 @@ not_object (Some c) = WrongType
 
 unfoldable mutual
   -- the rows of an element and of those inside it, after the rows with these ids; the default is the class that is due there
-  pub element_rows : Meta → Ids → Option DocParent → Option ℕ → Data → Read (List Draft)
+  pub element_rows : Meta → Ids → Option DocParent → Option ℕ → Data → Read (List ElementDraft)
   element_rows meta ids parent default (object ms) = object_rows meta ids parent default ms (λ c below. members_rows meta c (length ids) below no_part ms)
   element_rows meta ids parent default null = Err (not_object default)
   element_rows meta ids parent default (boolean b) = Err (not_object default)
@@ -80,7 +80,7 @@ unfoldable mutual
   element_rows meta ids parent default (array ds) = Err (not_object default)
 
   -- the rows of a list of elements, after those that it gave so far
-  pub items_rows : Meta → Ids → Option DocParent → Option ℕ → List Draft → Items → Read (List Draft)
+  pub items_rows : Meta → Ids → Option DocParent → Option ℕ → List ElementDraft → Items → Read (List ElementDraft)
   items_rows meta ids parent default rows no_items = Ok rows
   items_rows meta ids parent default rows (item d ds) =
       «then» (element_rows meta (ids ++ ids_of rows) parent default d) (λ more. items_rows meta ids parent default (rows ++ more) ds)
@@ -93,7 +93,7 @@ unfoldable mutual
       (λ more. members_rows meta c own ids (joined part more) ms)
 
   -- the elements under the key of a containment
-  pub held_rows : Meta → Ids → DocParent → ℕ → Data → Read (List Draft)
+  pub held_rows : Meta → Ids → DocParent → ℕ → Data → Read (List ElementDraft)
   held_rows meta ids parent target null = Ok []
   held_rows meta ids parent target (object ms) =
       unless (is_within 1 (upper_of meta parent.feature)) Bound
@@ -107,7 +107,7 @@ unfoldable mutual
   held_rows meta ids parent target (string s) = Err WrongType
 
 -- the rows of a document: an array of roots, or one root
-abbrev pub walked : Meta → Data → Read (List Draft)
+abbrev pub walked : Meta → Data → Read (List ElementDraft)
 walked meta (array ds) = items_rows meta [] None None [] ds
 walked meta null = Err NoClass
 walked meta (boolean b) = Err NoClass

@@ -5,7 +5,7 @@ use texts::{List, Text};
 
 /// An element as the walk finds it, whose references are not looked up yet.
 #[derive(Drop)]
-pub struct Draft {
+pub struct ElementDraft {
     pub id: Option<Id>,
     pub class: u32,
     pub parent: Option<DocParent>,

@@ -1,6 +1,6 @@
 //! The faults of a model text, with the number of each in a reply.
 ghost use Rattle.std.specs.Prelude.{◌≡◌};
-ghost use Rattle.model_documents.specs.Faults.{fault_number};
+ghost use Rattle.model_documents.specs.Faults.{model_fault_number};
 ghost use Rattle.model_documents.specs.declared.fault.ModelFault.TheVariants.{Memory};
 
 use std::alloc::AllocError;
@@ -55,7 +55,7 @@ impl From<AllocError> for ModelFault {
 impl ModelFault {
     /// The number of the fault in a reply.
     pub fn number(&self) -> u32
-        ensures number { result ≡ fault_number self.now }
+        ensures number { result ≡ model_fault_number self.now }
     {
         match self {
             ModelFault::NotJson => 1,

@@ -9,7 +9,7 @@ mod key;
 mod laws;
 
 pub use doc::{Doc, DocAttr, DocParent, DocRefs, DocRow};
-pub use draft::{Draft, Links};
+pub use draft::{ElementDraft, Links};
 pub use fault::ModelFault;
 pub use key::Key;
 pub use laws::law_of_documents;

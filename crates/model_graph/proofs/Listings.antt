@@ -23,7 +23,7 @@ use Rattle.model_state.specs.Listing.{is_of, rank_at, incoming, targets, childre
 use Rattle.model_state.specs.State.{place_eq}
 use Rattle.model_state.proofs.Orders.{id_order, nat_order, attr_order, row_order}
 use Rattle.ranked_lists.specs.Ranks.{Ranks, ranked_entry, stood}
-use Rattle.graph_parts.specs.Parts.{Sources, arrived}
+use Rattle.graph_parts.specs.Parts.{IncomingRanks, incoming_of}
 
 pub map_map : {A B C : Type 0} (f : B → C) (h : A → B) (xs : List A) → map f (map h xs) ≡ map (λ x. f (h x)) xs
 map_map f h [] = refl
@@ -119,7 +119,7 @@ ends_at b e = text_eq b e.0.2
 abbrev source_of : RowKey × ℕ → AttrKey × ℕ
 source_of e = ((e.0.0, e.0.1), e.1)
 
-module _ (row : FinMap row_cmp ℕ) (g : Sources) (b : IdBytes) (is : (a : IdBytes) (f : ℕ) → get g (a, f) ≡ get row (a, f, b)) where
+module _ (row : FinMap row_cmp ℕ) (g : IncomingRanks) (b : IdBytes) (is : (a : IdBytes) (f : ℕ) → get g (a, f) ≡ get row (a, f, b)) where
   target_is : (e : RowKey × ℕ) → ends_at b e ≡ true → b ≡ e.0.2
   target_is e h = text_equality.exact b e.0.2 h
 
@@ -138,8 +138,8 @@ module _ (row : FinMap row_cmp ℕ) (g : Sources) (b : IdBytes) (is : (a : IdByt
       whole l None = refl
       whole l (Some r) = ap (λ c. cond c (Some r) None) (sym (text_equality.own b))
 
-  pub incoming_are : map arrived (entries g) ≡ incoming row b
-  incoming_are = ap (map arrived) entries_arrived ∙ map_map arrived source_of (filter (ends_at b) (entries row))
+  pub incoming_are : map incoming_of (entries g) ≡ incoming row b
+  incoming_are = ap (map incoming_of) entries_arrived ∙ map_map incoming_of source_of (filter (ends_at b) (entries row))
 
 -- ---- the ids
 all_kept : {A : Type 0} (xs : List A) → filter (λ _. true) xs ≡ xs

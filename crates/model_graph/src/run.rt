@@ -6,7 +6,7 @@ ghost use Rattle.model_state.specs.Steps.{fold, first_stop};
 
 use crate::Graph;
 use ecore_meta::Metamodel;
-use model_laws::replay;
+use model_laws::take_in_order;
 use model_state::{ApplyFault, Step, StepFault};
 
 impl Graph {
@@ -24,7 +24,7 @@ impl Graph {
                 fault: StepFault::Memory,
             });
         };
-        match replay(&mut trial, meta, steps) {
+        match take_in_order(&mut trial, meta, steps) {
             Ok(()) => {
                 *self = trial;
                 Ok(())

@@ -12,7 +12,7 @@ use Rattle.model_state.proofs.Orders.{nat_order}
 use Rattle.model_documents.specs.Finder.{first_of, place_cmp}
 use Rattle.model_documents.specs.declared.doc.DocParent.{DocParent}
 use Rattle.model_documents.proofs.Finding.{same_place}
-use Rattle.model_documents.specs.Merged.{targets_at}
+use Rattle.model_documents.specs.Completed.{targets_at}
 use Rattle.model_documents.specs.declared.doc.DocRow.{DocRow}
 use Rattle.model_import.specs.Indexes.{TellAll, Tells}
 use Rattle.import_laws.specs.Links.{index_in, refs_at}

@@ -3,7 +3,7 @@ use Rattle.std.specs.Prelude.{◌≡◌, ℕ, List, Some}
 use Rattle.std.specs.BTreeMap.{BTreeMap, get}
 use Rattle.std.specs.Ordering.{nat_cmp}
 use Rattle.model_documents.specs.Finder.{place_cmp}
-use Rattle.model_documents.specs.Merged.{targets_at}
+use Rattle.model_documents.specs.Completed.{targets_at}
 use Rattle.model_documents.specs.declared.doc.DocRow.{DocRow}
 use Rattle.import_laws.specs.Links.{index_in, refs_at}
 

@@ -3,7 +3,7 @@ ghost use Rattle.std.specs.Prelude.{◌≡◌, ℕ, List, IfOk, None, OnOk, Some
 ghost use Rattle.std.specs.BTreeMap.{get};
 ghost use Rattle.std.specs.Ordering.{nat_cmp};
 ghost use Rattle.model_documents.specs.Finder.{first_of};
-ghost use Rattle.model_documents.specs.Merged.{targets_at};
+ghost use Rattle.model_documents.specs.Completed.{targets_at};
 ghost use Rattle.model_documents.specs.declared.doc.DocRow.{DocRow};
 ghost use Rattle.model_import.specs.Indexes.{TellAll, Tells};
 ghost use Rattle.import_laws.specs.Links.{index_in, refs_at};

@@ -18,7 +18,7 @@ pub fn law_of_reversals()
 {}
 
 /// Steps whose cells are disjoint commute.
-pub fn law_of_exchange()
+pub fn law_of_step_exchange()
     ensures exchange { ExchangeHolds }
     ensures side_by_side { SideBySide }
 {}

@@ -3,7 +3,7 @@
 #![tactic(auto)]
 
 mod laws;
-mod player;
+mod taking;
 
-pub use laws::{law_of_exchange, law_of_reversal, law_of_reversals, law_of_stops};
-pub use player::replay;
+pub use laws::{law_of_reversal, law_of_reversals, law_of_step_exchange, law_of_stops};
+pub use taking::take_in_order;

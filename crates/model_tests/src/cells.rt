@@ -13,7 +13,7 @@ use crate::reading::{cut, operation, steps};
 use ecore_meta::Metamodel;
 use emfjson_text::write_model;
 use footprint::{exchange, interferes, print_of};
-use model_laws::replay;
+use model_laws::take_in_order;
 use model_state::{Operation, Step};
 use std::alloc::Global;
 use std::process::Abort;
@@ -45,7 +45,7 @@ fn model_of(alloc: Global, meta: &Metamodel, steps: &[Step]) -> Result<Plain, Fa
     ensures run { IfOk result (λ p. fold meta.now nothing steps.now ≡ Some (plain_state p)) }
 {
     let mut plain = Plain::new(alloc);
-    replay(&mut plain, meta, steps)?;
+    take_in_order(&mut plain, meta, steps)?;
     Ok(plain)
 }
 
@@ -125,8 +125,8 @@ fn is_same_after(
     requires run { fold meta.now nothing start.now ≡ Some (plain_state in_order.old) }
     requires apart { interferes meta.now first.now second.now ≡ false }
 {
-    replay(in_order, meta, first.steps())?;
-    replay(in_order, meta, second.steps())?;
+    take_in_order(in_order, meta, first.steps())?;
+    take_in_order(in_order, meta, second.steps())?;
     is_left_exchanged(alloc, meta, in_order, start, first, second)
 }
 

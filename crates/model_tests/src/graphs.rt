@@ -9,7 +9,7 @@ use crate::reading::{cut, id, prefixed, step, steps};
 use crate::steps::{TABLE, told};
 use ecore_meta::Metamodel;
 use model_graph::Graph;
-use model_laws::replay;
+use model_laws::take_in_order;
 use model_state::{Change, Entry, Id, Look, Place, Step, StepFault};
 use state_steps::as_steps;
 use std::alloc::Global;
@@ -211,7 +211,7 @@ fn take<M: Change>(alloc: Global, meta: &Metamodel, model: &mut M, text: &str) -
         return Ok(());
     }
     let steps = steps(alloc, text)?;
-    replay(model, meta, steps.as_slice())?;
+    take_in_order(model, meta, steps.as_slice())?;
     Ok(())
 }
 
@@ -335,7 +335,7 @@ fn check_steps_from(
     requires sound { Sound meta.now }
     requires good { Good meta.now (plain_state built.old) }
 {
-    replay(built, meta, steps)?;
+    take_in_order(built, meta, steps)?;
     check_same(rt, alloc, meta, graph, built, line)
 }
 
@@ -591,7 +591,7 @@ fn take_library(alloc: Global, meta: &Metamodel, graph: &mut Graph) -> Result<()
 {
     let mut all = List::new(alloc);
     put_library(alloc, &mut all, 20_000)?;
-    replay(graph, meta, all.as_slice())?;
+    take_in_order(graph, meta, all.as_slice())?;
     Ok(())
 }
 

@@ -17,7 +17,7 @@ use Rattle.model_state.specs.declared.step.Place.TheVariants.{Root, Inside}
 use Rattle.model_state.specs.Keys.{IdBytes}
 use Rattle.model_state.specs.Listing.{children, targets, values_at}
 use Rattle.model_state.specs.State.{State}
-use Rattle.emfjson_io.specs.Values.{data_of}
+use Rattle.emfjson_values.specs.Values.{data_of}
 use Rattle.model_texts.specs.declared.key.Key.{Key}
 use Rattle.model_texts.specs.declared.key.Key.TheVariants.{Ident, Class, Feature}
 use Rattle.model_texts.specs.Keys.{key_name, keys_of}

@@ -20,7 +20,7 @@ use ecore_meta::{CompactList, Metamodel};
 use fault::TimesFault;
 use growth::{measure_growth, read};
 use model_graph::Graph;
-use model_laws::replay;
+use model_laws::take_in_order;
 use model_state::{Change, Id, Look, Operation, Package, Step};
 use queries::{QUERIES, Query, ask, asked};
 use reversals::reverse;
@@ -78,7 +78,7 @@ fn take<M: Change>(
     let Some(model) = models.get_mut(model as usize) else {
         return Err(TimesFault::Model);
     };
-    match replay(model, meta, steps) {
+    match take_in_order(model, meta, steps) {
         Ok(()) => Ok(()),
         Err(_) => Err(TimesFault::Step),
     }

@@ -50,17 +50,17 @@ field_back (Err f) x e = cc
 pub of_field : {X : Type 0} {Is : X → Type 0} {form : X → List ℕ} {read : Rest → Result (X × Rest) ReadFault} → IsReadAgain Is form read
     → IsSpelledSo Is form read → Codes Is form (λ r. field (read r))
 of_field {read} again spelled = record {
-  again = λ x is rest place. ap field (again x is rest place);
+  again = λ x is rest offset. ap field (again x is rest offset);
   spelled = λ before bytes x after e. spelled before bytes x after (field_back (read before) (x, after) e);
 }
 
 -- a value of no fields, of which no byte is written
 pub nothing_codes : Codes (λ (t : Unit {0}). Unit {0}) (λ t. []) nothing_at
 nothing_codes = record {
-  again = λ x is rest place. ap (λ k. Ok (tt, at rest k)) (omega arith);
+  again = λ x is rest offset. ap (λ k. Ok (tt, at rest k)) (omega arith);
   spelled = λ before bytes x after e.
       stands (λ (t : Unit {0}). Unit {0}) (λ t. []) before before after tt x (ok_is (tt, before) (x, after) e)
-      (record { is = tt; bytes = refl; place = omega arith });
+      (record { is = tt; bytes = refl; offset = omega arith });
 }
 
 pub u8_codes : Codes (IsBelow 256) byte_encoding u8_at
@@ -81,10 +81,10 @@ pub both : {A B : Type 0} {IsA : A → Type 0} {IsB : B → Type 0} {form_a : A 
 both {A} {B} {IsA} {IsB} {form_a} {form_b} {read_a} {read_b} a b = record { again = again; spelled = spelled }
   where
     again : IsReadAgain (λ p. IsA p.0 × IsB p.1) (λ p. form_a p.0 ++ form_b p.1) (read_a ⊗ read_b)
-    again p is rest place =
-        ap (λ bytes. (read_a ⊗ read_b) (at bytes place)) (append_assoc (form_a p.0) (form_b p.1) rest)
-        ∙ ap (λ r. r >>= λ x. made (λ y. (x.0, y)) (read_b x.1)) (a.again p.0 is.0 (form_b p.1 ++ rest) place)
-        ∙ ap (made (λ y. (p.0, y))) (b.again p.1 is.1 rest (place + length (form_a p.0)))
+    again p is rest offset =
+        ap (λ bytes. (read_a ⊗ read_b) (at bytes offset)) (append_assoc (form_a p.0) (form_b p.1) rest)
+        ∙ ap (λ r. r >>= λ x. made (λ y. (x.0, y)) (read_b x.1)) (a.again p.0 is.0 (form_b p.1 ++ rest) offset)
+        ∙ ap (made (λ y. (p.0, y))) (b.again p.1 is.1 rest (offset + length (form_a p.0)))
         ∙ ap (λ k. Ok (p, at rest k)) (omega (arith, length-append (form_a p.0) (form_b p.1)))
 
     spelled : IsSpelledSo (λ p. IsA p.0 × IsB p.1) (λ p. form_a p.0 ++ form_b p.1) (read_a ⊗ read_b)
@@ -97,20 +97,20 @@ both {A} {B} {IsA} {IsB} {form_a} {form_b} {read_a} {read_b} a b = record { agai
         (record {
           is = (s.is, t.is);
           bytes = s.bytes ∙ ap (λ more. form_a k.0.0 ++ more) t.bytes ∙ sym (append_assoc (form_a k.0.0) (form_b m.0) after.bytes);
-          place = omega (arith, s.place, t.place, length-append (form_a k.0.0) (form_b m.0));
+          offset = omega (arith, s.offset, t.offset, length-append (form_a k.0.0) (form_b m.0));
         })
 
 -- a value after its kind's byte: read again
-pub tagged_again : {X : Type 0} (form : X → List ℕ) (read : Rest → Result (X × Rest) FormFault) (tag : ℕ) (x : X) (rest : List ℕ) (place : ℕ)
-    → read (at (form x ++ rest) (place + 1)) ≡ Ok (x, at rest ((place + 1) + length (form x)))
-    → read (at (form x ++ rest) (place + 1)) ≡ Ok (x, at rest (place + length (tag ∷ form x)))
-tagged_again form read tag x rest place e = e ∙ ap (λ k. Ok (x, at rest k)) (omega arith)
+pub tagged_again : {X : Type 0} (form : X → List ℕ) (read : Rest → Result (X × Rest) FormFault) (tag : ℕ) (x : X) (rest : List ℕ) (offset : ℕ)
+    → read (at (form x ++ rest) (offset + 1)) ≡ Ok (x, at rest ((offset + 1) + length (form x)))
+    → read (at (form x ++ rest) (offset + 1)) ≡ Ok (x, at rest (offset + length (tag ∷ form x)))
+tagged_again form read tag x rest offset e = e ∙ ap (λ k. Ok (x, at rest k)) (omega arith)
 
 -- a kind of values that is made of others, after its kind's byte
 module _ {X Y : Type 0} {Is : X → Type 0} {form : X → List ℕ} {read : Reading X} (codes : Codes Is form read) (make : X → Y) (tag : ℕ) where
-  pub made_again : (x : X) → Is x → (rest : List ℕ) (place : ℕ)
-      → made make (read (at (form x ++ rest) (place + 1))) ≡ Ok (make x, at rest (place + length (tag ∷ form x)))
-  made_again x is rest place = ap (made make) (codes.again x is rest (place + 1)) ∙ ap (λ k. Ok (make x, at rest k)) (omega arith)
+  pub made_again : (x : X) → Is x → (rest : List ℕ) (offset : ℕ)
+      → made make (read (at (form x ++ rest) (offset + 1))) ≡ Ok (make x, at rest (offset + length (tag ∷ form x)))
+  made_again x is rest offset = ap (made make) (codes.again x is rest (offset + 1)) ∙ ap (λ k. Ok (make x, at rest k)) (omega arith)
 
   pub made_spelled : (IsY : Y → Type 0) (form_y : Y → List ℕ) → ((x : X) → Is x → IsY (make x)) → ((x : X) → Is x → form_y (make x) ≡ tag ∷ form x)
       → (before mid after : Rest) (y : Y)
@@ -123,7 +123,7 @@ module _ {X Y : Type 0} {Is : X → Type 0} {form : X → List ℕ} {read : Read
       (record {
         is = is_made m.0 s.is;
         bytes = t.bytes ∙ ap (λ more. tag ∷ more) s.bytes ∙ ap (λ spelling. spelling ++ after.bytes) (sym (form_made m.0 s.is));
-        place = omega (arith, s.place, t.place, ap length (form_made m.0 s.is));
+        offset = omega (arith, s.offset, t.offset, ap length (form_made m.0 s.is));
       })
 
 -- a value of no fields, after its byte
@@ -135,8 +135,8 @@ lone_spelled IsY form_y tag y is form_is before mid after z t e =
     (record {
       is = is;
       bytes = t.bytes ∙ ap (λ spelling. spelling ++ mid.bytes) (sym form_is);
-      place =
-          t.place ∙ ap (λ spelling. before.place + length spelling) (sym form_is);
+      offset =
+          t.offset ∙ ap (λ spelling. before.offset + length spelling) (sym form_is);
     })
 
 -- the byte that was read, where it is found to be a number
@@ -146,26 +146,26 @@ byte_stood before n mid bytes e tag is =
     subst (λ k. StoodThere (IsBelow 256) byte_encoding before mid k) (eqb-true n tag is) (u8_codes.spelled before bytes n mid e)
 
 -- nothing is left where the end was read
-ended : (bytes : List ℕ) (place : ℕ) → ◌≡◌ {A = Result (Unit {0}) FormFault} (field (ends_at (at bytes place))) (Ok tt) → bytes ≡ []
-ended [] place e = refl
-ended (b ∷ bytes) place e =
+ended : (bytes : List ℕ) (offset : ℕ) → ◌≡◌ {A = Result (Unit {0}) FormFault} (field (ends_at (at bytes offset))) (Ok tt) → bytes ≡ []
+ended [] offset e = refl
+ended (b ∷ bytes) offset e =
     let left : nat_lt 0 (length (b ∷ bytes)) ≡ true = le-leb 1 (length (b ∷ bytes)) (omega arith) in
-    let fault = sym (ap (λ t. field (cond t (Err (Spare place)) (Ok tt))) left) ∙ e in
+    let fault = sym (ap (λ t. field (cond t (Err (Spare offset)) (Ok tt))) left) ∙ e in
     cc
 
 module _ {X : Type 0} {Is : X → Type 0} {form : X → List ℕ} {read : Reading X} (codes : Codes Is form read) where
   option_again : IsReadAgain (IsGiven Is) (option_encoding form) (option_at read)
   unfolding option_at byte_at
-  option_again None is rest place = refl
-  option_again (Some x) is rest place = made_again codes (λ x. Some x) 1 x is rest place
+  option_again None is rest offset = refl
+  option_again (Some x) is rest offset = made_again codes (λ x. Some x) 1 x is rest offset
 
   option_spelled : IsSpelledSo (IsGiven Is) (option_encoding form) (option_at read)
   unfolding option_at
   option_spelled before bytes o after e =
-      let k = reached (u8_at before) (option_of read before.place) (o, after) e in
+      let k = reached (u8_at before) (option_of read before.offset) (o, after) e in
       elim (either (nat_eq k.0.0 0) (Ok (None, k.0.1)) _ (Ok (o, after)) k.2) [
         | inl h ↦ lone_spelled (IsGiven Is) (option_encoding form) 0 None tt refl before k.0.1 after o (byte_stood before k.0.0 k.0.1 bytes k.1 0 h.0) h.1
-        | inr h ↦ elim (either (nat_eq k.0.0 1) (made (λ x. Some x) (read k.0.1)) (Err (NotForm before.place)) (Ok (o, after)) h.1) [
+        | inr h ↦ elim (either (nat_eq k.0.0 1) (made (λ x. Some x) (read k.0.1)) (Err (NotForm before.offset)) (Ok (o, after)) h.1) [
           | inl i ↦ made_spelled codes (λ x. Some x) 1 (IsGiven Is) (option_encoding form) (λ x is. is) (λ x is. refl) before k.0.1 after o bytes
               (byte_stood before k.0.0 k.0.1 bytes k.1 1 i.0) i.1
           | inr i ↦ cc
@@ -175,14 +175,14 @@ module _ {X : Type 0} {Is : X → Type 0} {form : X → List ℕ} {read : Readin
   pub option_codes : Codes (IsGiven Is) (option_encoding form) (option_at read)
   option_codes = record { again = option_again; spelled = option_spelled }
 
-  items_again : (xs : List X) → All Is xs → (rest : List ℕ) (place : ℕ)
-      → items_at read (length xs) (at (items_encoding form xs ++ rest) place) ≡ Ok (xs, at rest (place + length (items_encoding form xs)))
-  items_again [] all rest place = ap (λ k. Ok ([], at rest k)) (omega arith)
-  items_again (x ∷ xs) all rest place =
-      ap (λ bytes. items_at read (suc (length xs)) (at bytes place)) (append_assoc (form x) (items_encoding form xs) rest)
+  items_again : (xs : List X) → All Is xs → (rest : List ℕ) (offset : ℕ)
+      → items_at read (length xs) (at (items_encoding form xs ++ rest) offset) ≡ Ok (xs, at rest (offset + length (items_encoding form xs)))
+  items_again [] all rest offset = ap (λ k. Ok ([], at rest k)) (omega arith)
+  items_again (x ∷ xs) all rest offset =
+      ap (λ bytes. items_at read (suc (length xs)) (at bytes offset)) (append_assoc (form x) (items_encoding form xs) rest)
       ∙ ap (λ r. r >>= λ y. made (λ ys. y.0 ∷ ys) (items_at read (length xs) y.1))
-      (codes.again x (all 0 x (omega arith)) (items_encoding form xs ++ rest) place)
-      ∙ ap (made (λ ys. x ∷ ys)) (items_again xs (λ k d lt. all (suc k) d (omega (arith, lt))) rest (place + length (form x)))
+      (codes.again x (all 0 x (omega arith)) (items_encoding form xs ++ rest) offset)
+      ∙ ap (made (λ ys. x ∷ ys)) (items_again xs (λ k d lt. all (suc k) d (omega (arith, lt))) rest (offset + length (form x)))
       ∙ ap (λ k. Ok (x ∷ xs, at rest k)) (omega (arith, length-append (form x) (items_encoding form xs)))
 
   -- so many items stood there
@@ -190,13 +190,13 @@ module _ {X : Type 0} {Is : X → Type 0} {form : X → List ℕ} {read : Readin
     count : length xs ≡ n
     all : All Is xs
     bytes : before.bytes ≡ items_encoding form xs ++ after.bytes
-    place : after.place ≡ before.place + length (items_encoding form xs)
+    offset : after.offset ≡ before.offset + length (items_encoding form xs)
 
   items_spelled : (n : ℕ) (before : Rest) → AreBytes before.bytes → (xs : List X) (after : Rest) → items_at read n before ≡ Ok (xs, after)
       → ItemsStood n before after xs
   items_spelled zero before bytes xs after e =
       let pair = ok_is ([], before) (xs, after) e in
-      subst (λ p. ItemsStood 0 before p.1 p.0) pair (record { count = refl; all = λ k d lt. absurd (omega (arith, lt)); bytes = refl; place = omega arith })
+      subst (λ p. ItemsStood 0 before p.1 p.0) pair (record { count = refl; all = λ k d lt. absurd (omega (arith, lt)); bytes = refl; offset = omega arith })
   items_spelled (suc n) before bytes xs after e =
       let k = reached (read before) (λ y. made (λ ys. y.0 ∷ ys) (items_at read n y.1)) (xs, after) e in
       let m = made_back (λ ys. k.0.0 ∷ ys) (items_at read n k.0.1) xs after k.2 in
@@ -207,18 +207,18 @@ module _ {X : Type 0} {Is : X → Type 0} {form : X → List ℕ} {read : Readin
         count = ap suc t.count;
         all = All-cons Is k.0.0 m.0 s.is t.all;
         bytes = s.bytes ∙ ap (λ more. form k.0.0 ++ more) t.bytes ∙ sym (append_assoc (form k.0.0) (items_encoding form m.0) after.bytes);
-        place = omega (arith, s.place, t.place, length-append (form k.0.0) (items_encoding form m.0));
+        offset = omega (arith, s.offset, t.offset, length-append (form k.0.0) (items_encoding form m.0));
       })
 
   -- a list's count and its items, as both lists and lists that aren't empty have them
-  counted_again : (xs : List X) → IsList Is xs → (rest : List ℕ) (place : ℕ)
-      → (u32_at (at (list_encoding form xs ++ rest) place) ≡ Ok (length xs, at (items_encoding form xs ++ rest) (place + length (u32_encoding (length xs)))))
-      × (items_at read (length xs) (at (items_encoding form xs ++ rest) (place + length (u32_encoding (length xs)))) ≡ Ok
-      (xs, at rest (place + length (list_encoding form xs))))
-  counted_again xs is rest place = (
-    ap (λ bytes. u32_at (at bytes place)) (append_assoc (u32_encoding (length xs)) (items_encoding form xs) rest)
-        ∙ u32_codes.again (length xs) is.0 (items_encoding form xs ++ rest) place,
-    items_again xs is.1 rest (place + length (u32_encoding (length xs)))
+  counted_again : (xs : List X) → IsList Is xs → (rest : List ℕ) (offset : ℕ)
+      → (u32_at (at (list_encoding form xs ++ rest) offset) ≡ Ok (length xs, at (items_encoding form xs ++ rest) (offset + length (u32_encoding (length xs)))))
+      × (items_at read (length xs) (at (items_encoding form xs ++ rest) (offset + length (u32_encoding (length xs)))) ≡ Ok
+      (xs, at rest (offset + length (list_encoding form xs))))
+  counted_again xs is rest offset = (
+    ap (λ bytes. u32_at (at bytes offset)) (append_assoc (u32_encoding (length xs)) (items_encoding form xs) rest)
+        ∙ u32_codes.again (length xs) is.0 (items_encoding form xs ++ rest) offset,
+    items_again xs is.1 rest (offset + length (u32_encoding (length xs)))
         ∙ ap (λ k. Ok (xs, at rest k)) (omega (arith, length-append (u32_encoding (length xs)) (items_encoding form xs))),
   )
 
@@ -231,15 +231,21 @@ module _ {X : Type 0} {Is : X → Type 0} {form : X → List ℕ} {read : Readin
           is = (omega (arith, t.count, s.is), t.all);
           bytes = s.bytes ∙ ap (λ more. u32_encoding n ++ more) t.bytes ∙ ap (λ m. u32_encoding m ++ (items_encoding form xs ++ after.bytes)) (sym t.count)
               ∙ sym (append_assoc (u32_encoding (length xs)) (items_encoding form xs) after.bytes);
-          place = omega (arith, s.place, t.place, length-append (u32_encoding (length xs)) (items_encoding form xs), ap (λ m. length (u32_encoding m)) t.count);
+          offset = omega (
+            arith,
+            s.offset,
+            t.offset,
+            length-append (u32_encoding (length xs)) (items_encoding form xs),
+            ap (λ m. length (u32_encoding m)) t.count,
+          );
         },
         t.count,
       )
 
   list_again : IsReadAgain (IsList Is) (list_encoding form) (list_at read)
   unfolding list_at
-  list_again xs is rest place =
-      let k = counted_again xs is rest place in
+  list_again xs is rest offset =
+      let k = counted_again xs is rest offset in
       ap (λ r. r >>= λ count. items_at read count.0 count.1) k.0 ∙ k.1
 
   list_spelled : IsSpelledSo (IsList Is) (list_encoding form) (list_at read)
@@ -259,22 +265,22 @@ module _ {X : Type 0} {Is : X → Type 0} {form : X → List ℕ} {read : Readin
 
   some_again : IsReadAgain (IsSomeList Is) (list_encoding form) (some_at read)
   unfolding some_at
-  some_again xs is rest place =
-      let k = counted_again xs (is.1, is.2) rest place in
-      ap (λ r. r >>= λ count. cond (nat_eq count.0 0) (Err (NotForm place)) (items_at read count.0 count.1)) k.0
-      ∙ ap (λ b. cond b (Err (NotForm place))
-      (items_at read (length xs) (at (items_encoding form xs ++ rest) (place + length (u32_encoding (length xs)))))) (some_count (length xs) is.0)
+  some_again xs is rest offset =
+      let k = counted_again xs (is.1, is.2) rest offset in
+      ap (λ r. r >>= λ count. cond (nat_eq count.0 0) (Err (NotForm offset)) (items_at read count.0 count.1)) k.0
+      ∙ ap (λ b. cond b (Err (NotForm offset))
+      (items_at read (length xs) (at (items_encoding form xs ++ rest) (offset + length (u32_encoding (length xs)))))) (some_count (length xs) is.0)
       ∙ k.1
 
   some_spelled : IsSpelledSo (IsSomeList Is) (list_encoding form) (some_at read)
   unfolding some_at
   some_spelled before bytes xs after e =
-      let k = reached (u32_at before) (λ count. cond (nat_eq count.0 0) (Err (NotForm before.place)) (items_at read count.0 count.1)) (xs, after) e in
-      elim (either (nat_eq k.0.0 0) (Err (NotForm before.place)) (items_at read k.0.0 k.0.1) (Ok (xs, after)) k.2) [
+      let k = reached (u32_at before) (λ count. cond (nat_eq count.0 0) (Err (NotForm before.offset)) (items_at read count.0 count.1)) (xs, after) e in
+      elim (either (nat_eq k.0.0 0) (Err (NotForm before.offset)) (items_at read k.0.0 k.0.1) (Ok (xs, after)) k.2) [
         | inl h ↦ cc
         | inr h ↦
             let s = counted_spelled before k.0.1 after k.0.0 xs bytes k.1 h.1 in
-            record { is = (omega (arith, s.1, count_some k.0.0 h.0), s.0.is.0, s.0.is.1); bytes = s.0.bytes; place = s.0.place }
+            record { is = (omega (arith, s.1, count_some k.0.0 h.0), s.0.is.0, s.0.is.1); bytes = s.0.bytes; offset = s.0.offset }
       ]
 
   pub some_codes : Codes (IsSomeList Is) (list_encoding form) (some_at read)
@@ -295,7 +301,7 @@ module _ {X : Type 0} {Is : X → Type 0} {form : X → List ℕ} {read : Readin
       let l = reached (field (ends_at k.0.1)) (λ end. Ok k.0.0) x k.2 in
       let s = codes.spelled (at bytes 0) are k.0.0 k.0.1 k.1 in
       let same = ok_is k.0.0 x l.2 in
-      (subst Is same s.is, s.bytes ∙ ap (λ more. form k.0.0 ++ more) (ended k.0.1.bytes k.0.1.place l.1) ∙ append-nil (form k.0.0) ∙ ap form same)
+      (subst Is same s.is, s.bytes ∙ ap (λ more. form k.0.0 ++ more) (ended k.0.1.bytes k.0.1.offset l.1) ∙ append-nil (form k.0.0) ∙ ap form same)
 
   -- what is left over, and where it begins
   pub more_left : MoreIsLeftOver Is form (whole_of read)
@@ -304,8 +310,8 @@ module _ {X : Type 0} {Is : X → Type 0} {form : X → List ℕ} {read : Readin
       let e = codes.again x is (byte ∷ more) 0 in
       ap (λ r. r >>= λ x. field (ends_at x.1) >>= λ end. Ok x.0) e ∙ spare byte more (0 + length (form x)) ∙ ap (λ n. Err (NotForm n)) (omega arith)
     where
-      spare : (byte : ℕ) (more : List ℕ) (place : ℕ)
-          → ◌≡◌ {A = Result X FormFault} (field (ends_at (at (byte ∷ more) place)) >>= λ end. Ok x) (Err (NotForm place))
-      spare byte more place =
+      spare : (byte : ℕ) (more : List ℕ) (offset : ℕ)
+          → ◌≡◌ {A = Result X FormFault} (field (ends_at (at (byte ∷ more) offset)) >>= λ end. Ok x) (Err (NotForm offset))
+      spare byte more offset =
           let left : nat_lt 0 (length (byte ∷ more)) ≡ true = le-leb 1 (length (byte ∷ more)) (omega arith) in
-          ap (λ t. field (cond t (Err (Spare place)) (Ok tt)) >>= λ end. Ok x) left
+          ap (λ t. field (cond t (Err (Spare offset)) (Ok tt)) >>= λ end. Ok x) left

@@ -9,7 +9,7 @@ use Rattle.op_form.specs.declared.event.Event.TheVariants.{Init, Checkout, Edit,
 use Rattle.op_form.specs.declared.event.Event.TheVariants.{Drop, Evolve, Upgrade, Signed}
 use Rattle.op_reading.specs.Reading.{Reading, made, u8_at}
 use Rattle.op_reading.specs.Events.{init_at, checkout_at, edit_at, begin_at, commit_at, branch_at, tag_at, update_at, merge_at, evolve_at, upgrade_at}
-use Rattle.op_reading.specs.Events.{signed_at, events_by_kind, chosen, event_at}
+use Rattle.op_reading.specs.Events.{signed_at, events_by_kind, event_of_kind, event_at}
 use Rattle.op_form.specs.Events.{event_encoding}
 use Rattle.op_form.specs.Formed.{IsEvent}
 use Rattle.op_reading.specs.Laws.{EventsAreTested}
@@ -19,26 +19,26 @@ use Rattle.op_reading.proofs.PackageCodes.{package_codes}
 
 event_again : IsReadAgain IsEvent event_encoding event_at
 unfolding event_at event_encoding byte_at init_at checkout_at edit_at begin_at commit_at branch_at tag_at update_at merge_at evolve_at upgrade_at signed_at
-event_again (Init text) is rest place = made_again text_codes (λ t. Init t) 1 text is rest place
-event_again (Checkout version branch) is rest place = made_again (both u32_codes u32_codes) (λ t. Checkout t.0 t.1) 2 (version, branch) is rest place
-event_again (Edit ws operations) is rest place = made_again (both u32_codes package_codes) (λ t. Edit t.0 t.1) 3 (ws, operations) is rest place
-event_again (Begin ws name) is rest place = made_again (both u32_codes text_codes) (λ t. Begin t.0 t.1) 4 (ws, name) is rest place
-event_again (End ws) is rest place = made_again u32_codes (λ ws. End ws) 5 ws is rest place
-event_again (Undo ws) is rest place = made_again u32_codes (λ ws. Undo ws) 6 ws is rest place
-event_again (Discard ws) is rest place = made_again u32_codes (λ ws. Discard ws) 7 ws is rest place
-event_again (Tidy ws) is rest place = made_again u32_codes (λ ws. Tidy ws) 8 ws is rest place
-event_again (Commit ws message) is rest place = made_again (both u32_codes text_codes) (λ t. Commit t.0 t.1) 9 (ws, message) is rest place
-event_again (Branch ws name) is rest place = made_again (both u32_codes text_codes) (λ t. Branch t.0 t.1) 10 (ws, name) is rest place
-event_again (Tag name version) is rest place = made_again (both text_codes u32_codes) (λ t. Tag t.0 t.1) 11 (name, version) is rest place
-event_again (Update ws choices) is rest place = made_again (both u32_codes text_codes) (λ t. Update t.0 t.1) 12 (ws, choices) is rest place
-event_again (Merge ws branch choices) is rest place =
-    made_again (both u32_codes (both u32_codes text_codes)) (λ t. Merge t.0 t.1.0 t.1.1) 13 (ws, (branch, choices)) is rest place
-event_again (Drop ws) is rest place = made_again u32_codes (λ ws. Drop ws) 14 ws is rest place
-event_again (Evolve text) is rest place = made_again text_codes (λ t. Evolve t) 15 text is rest place
-event_again Upgrade is rest place = made_again nothing_codes (λ t. Upgrade) 16 tt is rest place
-event_again (Signed ws author moment message) is rest place =
+event_again (Init text) is rest offset = made_again text_codes (λ t. Init t) 1 text is rest offset
+event_again (Checkout version branch) is rest offset = made_again (both u32_codes u32_codes) (λ t. Checkout t.0 t.1) 2 (version, branch) is rest offset
+event_again (Edit ws operations) is rest offset = made_again (both u32_codes package_codes) (λ t. Edit t.0 t.1) 3 (ws, operations) is rest offset
+event_again (Begin ws name) is rest offset = made_again (both u32_codes text_codes) (λ t. Begin t.0 t.1) 4 (ws, name) is rest offset
+event_again (End ws) is rest offset = made_again u32_codes (λ ws. End ws) 5 ws is rest offset
+event_again (Undo ws) is rest offset = made_again u32_codes (λ ws. Undo ws) 6 ws is rest offset
+event_again (Discard ws) is rest offset = made_again u32_codes (λ ws. Discard ws) 7 ws is rest offset
+event_again (Tidy ws) is rest offset = made_again u32_codes (λ ws. Tidy ws) 8 ws is rest offset
+event_again (Commit ws message) is rest offset = made_again (both u32_codes text_codes) (λ t. Commit t.0 t.1) 9 (ws, message) is rest offset
+event_again (Branch ws name) is rest offset = made_again (both u32_codes text_codes) (λ t. Branch t.0 t.1) 10 (ws, name) is rest offset
+event_again (Tag name version) is rest offset = made_again (both text_codes u32_codes) (λ t. Tag t.0 t.1) 11 (name, version) is rest offset
+event_again (Update ws choices) is rest offset = made_again (both u32_codes text_codes) (λ t. Update t.0 t.1) 12 (ws, choices) is rest offset
+event_again (Merge ws branch choices) is rest offset =
+    made_again (both u32_codes (both u32_codes text_codes)) (λ t. Merge t.0 t.1.0 t.1.1) 13 (ws, (branch, choices)) is rest offset
+event_again (Drop ws) is rest offset = made_again u32_codes (λ ws. Drop ws) 14 ws is rest offset
+event_again (Evolve text) is rest offset = made_again text_codes (λ t. Evolve t) 15 text is rest offset
+event_again Upgrade is rest offset = made_again nothing_codes (λ t. Upgrade) 16 tt is rest offset
+event_again (Signed ws author moment message) is rest offset =
     made_again (both u32_codes (both text_codes (both u64_codes text_codes))) (λ t. Signed t.0 t.1.0 t.1.1.0 t.1.1.1) 17
-    (ws, (author, (moment, message))) is rest place
+    (ws, (author, (moment, message))) is rest offset
 
 -- a kind's byte, how its fields are read, and that an event of the kind stood where they are read after that byte
 record Row : Type 0 where
@@ -62,10 +62,10 @@ plain row = (row.tag, row.read)
 -- an event of the kind that the byte chooses stood there
 chosen_spelled : (rows : List Row) (before mid after : Rest) (event : Event) (n : ℕ) → AreBytes before.bytes
     → ((tag : ℕ) → nat_eq n tag ≡ true → StoodThere (IsBelow 256) byte_encoding before mid tag)
-    → chosen (map plain rows) before.place (n, mid) ≡ Ok (event, after) → StoodThere IsEvent event_encoding before after event
+    → event_of_kind (map plain rows) before.offset (n, mid) ≡ Ok (event, after) → StoodThere IsEvent event_encoding before after event
 chosen_spelled [] before mid after event n bytes stood e = cc
 chosen_spelled (row ∷ rows) before mid after event n bytes stood e =
-    elim (either (nat_eq n row.tag) (row.read mid) (chosen (map plain rows) before.place (n, mid)) (Ok (event, after)) e) [
+    elim (either (nat_eq n row.tag) (row.read mid) (event_of_kind (map plain rows) before.offset (n, mid)) (Ok (event, after)) e) [
       | inl h ↦ row.spelled before mid after event bytes (stood row.tag h.0) h.1
       | inr h ↦ chosen_spelled rows before mid after event n bytes stood h.1
     ]
@@ -73,7 +73,7 @@ chosen_spelled (row ∷ rows) before mid after event n bytes stood e =
 event_spelled : IsSpelledSo IsEvent event_encoding event_at
 unfolding event_at event_encoding init_at checkout_at edit_at begin_at commit_at branch_at tag_at update_at merge_at evolve_at upgrade_at signed_at
 event_spelled before bytes event after e =
-    let k = reached (u8_at before) (chosen events_by_kind before.place) (event, after) e in
+    let k = reached (u8_at before) (event_of_kind events_by_kind before.offset) (event, after) e in
     let stood = byte_stood before k.0.0 k.0.1 bytes k.1 in
     chosen_spelled (
     known text_codes (λ t. Init t) 1 (λ t is. is) (λ t is. refl) ∷

@@ -24,17 +24,17 @@ use Rattle.op_reading.proofs.StepCodes.{step_codes}
 
 kind_again : IsReadAgain (λ kind. Unit {0}) kind_encoding kind_at
 unfolding kind_at byte_at
-kind_again kinds.Create is rest place = refl
-kind_again kinds.Delete is rest place = refl
-kind_again kinds.Attribute is rest place = refl
-kind_again kinds.ManyAttribute is rest place = refl
-kind_again kinds.Reference is rest place = refl
-kind_again kinds.Move is rest place = refl
+kind_again kinds.Create is rest offset = refl
+kind_again kinds.Delete is rest offset = refl
+kind_again kinds.Attribute is rest offset = refl
+kind_again kinds.ManyAttribute is rest offset = refl
+kind_again kinds.Reference is rest offset = refl
+kind_again kinds.Move is rest offset = refl
 
-kind_found : (place : ℕ) (o : Option OpKind) (mid : Rest) (kind : OpKind) (after : Rest) → kind_from place o mid ≡ Ok (kind, after)
+kind_found : (offset : ℕ) (o : Option OpKind) (mid : Rest) (kind : OpKind) (after : Rest) → kind_from offset o mid ≡ Ok (kind, after)
     → (o ≡ Some kind) × (mid ≡ after)
-kind_found place None mid kind after e = cc
-kind_found place (Some k) mid kind after e = let pair = ok_is (k, mid) (kind, after) e in (ap (λ p. Some p.0) pair, ap (λ p. p.1) pair)
+kind_found offset None mid kind after e = cc
+kind_found offset (Some k) mid kind after e = let pair = ok_is (k, mid) (kind, after) e in (ap (λ p. Some p.0) pair, ap (λ p. p.1) pair)
 
 some_kind : (kind other : OpKind) → Some kind ≡ Some other → kind ≡ other
 some_kind kind other e = cc
@@ -66,13 +66,13 @@ kind_stood before n mid stood kind e =
   where
     one : (known : OpKind) → known ≡ kind → StoodThere (IsBelow 256) byte_encoding before mid (kind_byte known)
         → StoodThere (λ k. Unit {0}) kind_encoding before mid kind
-    one known same s = subst (λ k. StoodThere (λ k. Unit {0}) kind_encoding before mid k) same (record { is = tt; bytes = s.bytes; place = s.place })
+    one known same s = subst (λ k. StoodThere (λ k. Unit {0}) kind_encoding before mid k) same (record { is = tt; bytes = s.bytes; offset = s.offset })
 
 kind_spelled : IsSpelledSo (λ kind. Unit {0}) kind_encoding kind_at
 unfolding kind_at
 kind_spelled before bytes kind after e =
-    let k = reached (u8_at before) (λ byte. kind_from before.place (kind_of byte.0) byte.1) (kind, after) e in
-    let f = kind_found before.place (kind_of k.0.0) k.0.1 kind after k.2 in
+    let k = reached (u8_at before) (λ byte. kind_from before.offset (kind_of byte.0) byte.1) (kind, after) e in
+    let f = kind_found before.offset (kind_of k.0.0) k.0.1 kind after k.2 in
     subst (λ r. StoodThere (λ k. Unit {0}) kind_encoding before r kind) f.1 (kind_stood before k.0.0 k.0.1 (byte_stood before k.0.0 k.0.1 bytes k.1) kind f.0)
 
 pub kind_codes : Codes (λ kind. Unit {0}) kind_encoding kind_at
@@ -103,7 +103,7 @@ name_short (b ∷ bs) is =
 
 name_again : IsReadAgain IsNameText text_encoding name_at
 unfolding name_at
-name_again text is rest place = told_again is_name name_short name_at text is rest place
+name_again text is rest offset = told_again is_name name_short name_at text is rest offset
 
 name_spelled : IsSpelledSo IsNameText text_encoding name_at
 unfolding name_at
@@ -114,19 +114,19 @@ name_codes = record { again = name_again; spelled = name_spelled }
 
 operation_again : IsReadAgain IsOperation operation_encoding operation_at
 unfolding operation_at operation_encoding simple_at composite_at byte_at
-operation_again (Simple kind steps) is rest place = made_again (both kind_codes (some_codes step_codes)) (λ t. Simple t.0 t.1) 1 (kind, steps) is rest place
-operation_again (Composite name steps) is rest place =
-    made_again (both name_codes (some_codes step_codes)) (λ t. Composite t.0 t.1) 2 (name, steps) is rest place
+operation_again (Simple kind steps) is rest offset = made_again (both kind_codes (some_codes step_codes)) (λ t. Simple t.0 t.1) 1 (kind, steps) is rest offset
+operation_again (Composite name steps) is rest offset =
+    made_again (both name_codes (some_codes step_codes)) (λ t. Composite t.0 t.1) 2 (name, steps) is rest offset
 
 operation_spelled : IsSpelledSo IsOperation operation_encoding operation_at
 unfolding operation_at operation_encoding simple_at composite_at
 operation_spelled before bytes o after e =
-    let k = reached (u8_at before) (operation_of before.place) (o, after) e in
+    let k = reached (u8_at before) (operation_of before.offset) (o, after) e in
     let stood = byte_stood before k.0.0 k.0.1 bytes k.1 in
     elim (either (nat_eq k.0.0 1) (simple_at k.0.1) _ (Ok (o, after)) k.2) [
       | inl h ↦ made_spelled (both kind_codes (some_codes step_codes)) (λ t. Simple t.0 t.1) 1 IsOperation operation_encoding (λ t is. is)
           (λ t is. refl) before k.0.1 after o bytes (stood 1 h.0) h.1
-      | inr h ↦ elim (either (nat_eq k.0.0 2) (composite_at k.0.1) (Err (NotForm before.place)) (Ok (o, after)) h.1) [
+      | inr h ↦ elim (either (nat_eq k.0.0 2) (composite_at k.0.1) (Err (NotForm before.offset)) (Ok (o, after)) h.1) [
         | inl i ↦ made_spelled (both name_codes (some_codes step_codes)) (λ t. Composite t.0 t.1) 2 IsOperation operation_encoding (λ t is. is)
             (λ t is. refl) before k.0.1 after o bytes (stood 2 i.0) i.1
         | inr i ↦ cc

@@ -14,39 +14,39 @@ use Rattle.op_reading.proofs.ValueCodes.{id_codes, value_codes, place_codes}
 
 step_again : IsReadAgain IsStep step_encoding step_at
 unfolding step_at step_encoding byte_at put_at ins_at del_at shift_at link_at unlink_at rerank_row_at new_at gone_at move_at rerank_place_at
-step_again (Put a b c d) is rest place =
+step_again (Put a b c d) is rest offset =
     made_again (both id_codes (both u32_codes (both (option_codes value_codes) (option_codes value_codes)))) (λ t. Put t.0 t.1.0 t.1.1.0 t.1.1.1) 1
-    (a, (b, (c, d))) is rest place
-step_again (Ins a b c d) is rest place =
-    made_again (both id_codes (both u32_codes (both u32_codes value_codes))) (λ t. Ins t.0 t.1.0 t.1.1.0 t.1.1.1) 2 (a, (b, (c, d))) is rest place
-step_again (Del a b c d) is rest place =
-    made_again (both id_codes (both u32_codes (both u32_codes value_codes))) (λ t. Del t.0 t.1.0 t.1.1.0 t.1.1.1) 3 (a, (b, (c, d))) is rest place
-step_again (Shift a b c d) is rest place =
-    made_again (both id_codes (both u32_codes (both u32_codes u32_codes))) (λ t. Shift t.0 t.1.0 t.1.1.0 t.1.1.1) 4 (a, (b, (c, d))) is rest place
-step_again (Link a b c d e) is rest place =
+    (a, (b, (c, d))) is rest offset
+step_again (Ins a b c d) is rest offset =
+    made_again (both id_codes (both u32_codes (both u32_codes value_codes))) (λ t. Ins t.0 t.1.0 t.1.1.0 t.1.1.1) 2 (a, (b, (c, d))) is rest offset
+step_again (Del a b c d) is rest offset =
+    made_again (both id_codes (both u32_codes (both u32_codes value_codes))) (λ t. Del t.0 t.1.0 t.1.1.0 t.1.1.1) 3 (a, (b, (c, d))) is rest offset
+step_again (Shift a b c d) is rest offset =
+    made_again (both id_codes (both u32_codes (both u32_codes u32_codes))) (λ t. Shift t.0 t.1.0 t.1.1.0 t.1.1.1) 4 (a, (b, (c, d))) is rest offset
+step_again (Link a b c d e) is rest offset =
     made_again (both id_codes (both u32_codes (both u64_codes (both id_codes (option_codes u64_codes)))))
-    (λ t. Link t.0 t.1.0 t.1.1.0 t.1.1.1.0 t.1.1.1.1) 5 (a, (b, (c, (d, e)))) is rest place
-step_again (Unlink a b c d e) is rest place =
+    (λ t. Link t.0 t.1.0 t.1.1.0 t.1.1.1.0 t.1.1.1.1) 5 (a, (b, (c, (d, e)))) is rest offset
+step_again (Unlink a b c d e) is rest offset =
     made_again (both id_codes (both u32_codes (both u64_codes (both id_codes (option_codes u64_codes)))))
-    (λ t. Unlink t.0 t.1.0 t.1.1.0 t.1.1.1.0 t.1.1.1.1) 6 (a, (b, (c, (d, e)))) is rest place
-step_again (RerankRow a b c d e) is rest place =
+    (λ t. Unlink t.0 t.1.0 t.1.1.0 t.1.1.1.0 t.1.1.1.1) 6 (a, (b, (c, (d, e)))) is rest offset
+step_again (RerankRow a b c d e) is rest offset =
     made_again (both id_codes (both u32_codes (both id_codes (both u64_codes u64_codes)))) (λ t. RerankRow t.0 t.1.0 t.1.1.0 t.1.1.1.0 t.1.1.1.1) 7
-    (a, (b, (c, (d, e)))) is rest place
-step_again (New a b c d) is rest place =
-    made_again (both id_codes (both u32_codes (both place_codes u64_codes))) (λ t. New t.0 t.1.0 t.1.1.0 t.1.1.1) 8 (a, (b, (c, d))) is rest place
-step_again (Gone a b c d) is rest place =
-    made_again (both id_codes (both u32_codes (both place_codes u64_codes))) (λ t. Gone t.0 t.1.0 t.1.1.0 t.1.1.1) 9 (a, (b, (c, d))) is rest place
-step_again (Move a b c d e f g) is rest place =
+    (a, (b, (c, (d, e)))) is rest offset
+step_again (New a b c d) is rest offset =
+    made_again (both id_codes (both u32_codes (both place_codes u64_codes))) (λ t. New t.0 t.1.0 t.1.1.0 t.1.1.1) 8 (a, (b, (c, d))) is rest offset
+step_again (Gone a b c d) is rest offset =
+    made_again (both id_codes (both u32_codes (both place_codes u64_codes))) (λ t. Gone t.0 t.1.0 t.1.1.0 t.1.1.1) 9 (a, (b, (c, d))) is rest offset
+step_again (Move a b c d e f g) is rest offset =
     made_again (both id_codes
     (both place_codes (both u64_codes (both place_codes (both u64_codes (both (list_codes id_codes) (list_codes id_codes)))))))
-    (λ t. Move t.0 t.1.0 t.1.1.0 t.1.1.1.0 t.1.1.1.1.0 t.1.1.1.1.1.0 t.1.1.1.1.1.1) 10 (a, (b, (c, (d, (e, (f, g)))))) is rest place
-step_again (RerankPlace a b c) is rest place =
-    made_again (both id_codes (both u64_codes u64_codes)) (λ t. RerankPlace t.0 t.1.0 t.1.1) 11 (a, (b, c)) is rest place
+    (λ t. Move t.0 t.1.0 t.1.1.0 t.1.1.1.0 t.1.1.1.1.0 t.1.1.1.1.1.0 t.1.1.1.1.1.1) 10 (a, (b, (c, (d, (e, (f, g)))))) is rest offset
+step_again (RerankPlace a b c) is rest offset =
+    made_again (both id_codes (both u64_codes u64_codes)) (λ t. RerankPlace t.0 t.1.0 t.1.1) 11 (a, (b, c)) is rest offset
 
 step_spelled : IsSpelledSo IsStep step_encoding step_at
 unfolding step_at step_encoding put_at ins_at del_at shift_at link_at unlink_at rerank_row_at new_at gone_at move_at rerank_place_at
 step_spelled before bytes s after e =
-    let k = reached (u8_at before) (step_of before.place) (s, after) e in
+    let k = reached (u8_at before) (step_of before.offset) (s, after) e in
     let stood = byte_stood before k.0.0 k.0.1 bytes k.1 in
     elim (either (nat_eq k.0.0 1) (put_at k.0.1) _ (Ok (s, after)) k.2) [
       | inl h1 ↦ made_spelled (both id_codes (both u32_codes (both (option_codes value_codes) (option_codes value_codes))))

@@ -84,14 +84,14 @@ events_by_kind =
     (17, signed_at) ∷ []
 
 -- what the byte chooses of these
-abbrev pub chosen : List (ℕ × Reading Event) → ℕ → ℕ × Rest → Result (Event × Rest) FormFault
-chosen [] place kind = Err (NotForm place)
-chosen (row ∷ rows) place kind = if kind.0 == row.0 then row.1 kind.1 else chosen rows place kind
+abbrev pub event_of_kind : List (ℕ × Reading Event) → ℕ → ℕ × Rest → Result (Event × Rest) FormFault
+event_of_kind [] offset kind = Err (NotForm offset)
+event_of_kind (row ∷ rows) offset kind = if kind.0 == row.0 then row.1 kind.1 else event_of_kind rows offset kind
 
 -- an event: its kind's byte, and the fields of that kind
 unfoldable pub event_at : Reading Event
-event_at r = u8_at r >>= chosen events_by_kind r.place
+event_at r = u8_at r >>= event_of_kind events_by_kind r.offset
 
 -- all of some bytes, as one value
 unfoldable pub whole_of : {X : Type 0} → Reading X → List ℕ → Result X FormFault
-whole_of read bytes = read (record { bytes = bytes; place = 0 }) >>= λ x. field (ends_at x.1) >>= λ end. Ok x.0
+whole_of read bytes = read (record { bytes = bytes; offset = 0 }) >>= λ x. field (ends_at x.1) >>= λ end. Ok x.0

@@ -26,16 +26,16 @@ kind_of byte =
 
 -- the kind, where the byte is one's
 abbrev pub kind_from : ℕ → Option OpKind → Rest → Result (OpKind × Rest) FormFault
-kind_from place None r = Err (NotForm place)
-kind_from place (Some kind) r = Ok (kind, r)
+kind_from offset None r = Err (NotForm offset)
+kind_from offset (Some kind) r = Ok (kind, r)
 
 -- the next byte, as a kind
 unfoldable pub kind_at : Reading OpKind
-kind_at r = u8_at r >>= λ byte. kind_from r.place (kind_of byte.0) byte.1
+kind_at r = u8_at r >>= λ byte. kind_from r.offset (kind_of byte.0) byte.1
 
 -- the name of a composite is a text of a name's form
 unfoldable pub name_at : Reading (List ℕ)
-name_at r = any_text_at r >>= tested_text is_name r.place
+name_at r = any_text_at r >>= tested_text is_name r.offset
 
 -- a simple operation: its kind and its steps
 unfoldable pub simple_at : Reading Operation
@@ -47,14 +47,14 @@ composite_at r = made (λ t. Composite t.0 t.1) ((name_at ⊗ some_at step_at) r
 
 -- an operation: a byte 1, the kind and the steps, or a byte 2, the name and the steps
 abbrev pub operation_of : ℕ → ℕ × Rest → Result (Operation × Rest) FormFault
-operation_of place tag =
+operation_of offset tag =
     if tag.0 == 1 then simple_at tag.1
     else if tag.0 == 2 then composite_at tag.1
-    else Err (NotForm place)
+    else Err (NotForm offset)
 
 -- an operation, by its first byte
 unfoldable pub operation_at : Reading Operation
-operation_at r = u8_at r >>= operation_of r.place
+operation_at r = u8_at r >>= operation_of r.offset
 
 -- a package is a list of operations
 unfoldable pub package_at : Reading (List Operation)

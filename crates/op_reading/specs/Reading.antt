@@ -56,14 +56,14 @@ abbrev pub ◌⊗◌ : {A B : Type 0} → Reading A → Reading B → Reading (A
 
 -- a value after its byte 1, or none after the byte 0
 abbrev pub option_of : {X : Type 0} → Reading X → ℕ → ℕ × Rest → Result (Option X × Rest) FormFault
-option_of read place tag =
+option_of read offset tag =
     if tag.0 == 0 then Ok (None, tag.1)
     else if tag.0 == 1 then made (λ x. Some x) (read tag.1)
-    else Err (NotForm place)
+    else Err (NotForm offset)
 
 -- a value or none, by its first byte
 unfoldable pub option_at : {X : Type 0} → Reading X → Reading (Option X)
-option_at read r = u8_at r >>= option_of read r.place
+option_at read r = u8_at r >>= option_of read r.offset
 
 -- so many items one after another
 abbrev pub items_at : {X : Type 0} → Reading X → ℕ → Reading (List X)
@@ -76,4 +76,4 @@ list_at read r = u32_at r >>= λ count. items_at read count.0 count.1
 
 -- a list that isn't empty: a count of 0 can't be read
 unfoldable pub some_at : {X : Type 0} → Reading X → Reading (List X)
-some_at read r = u32_at r >>= λ count. if count.0 == 0 then Err (NotForm r.place) else items_at read count.0 count.1
+some_at read r = u32_at r >>= λ count. if count.0 == 0 then Err (NotForm r.offset) else items_at read count.0 count.1

@@ -56,7 +56,7 @@ rerank_place_at r = made (λ t. RerankPlace t.0 t.1.0 t.1.1) ((id_at ⊗ u64_at 
 
 -- the kind's byte chooses
 abbrev pub step_of : ℕ → ℕ × Rest → Result (Step × Rest) FormFault
-step_of place kind =
+step_of offset kind =
     if kind.0 == 1 then put_at kind.1
     else if kind.0 == 2 then ins_at kind.1
     else if kind.0 == 3 then del_at kind.1
@@ -68,8 +68,8 @@ step_of place kind =
     else if kind.0 == 9 then gone_at kind.1
     else if kind.0 == 10 then move_at kind.1
     else if kind.0 == 11 then rerank_place_at kind.1
-    else Err (NotForm place)
+    else Err (NotForm offset)
 
 -- a step: its kind's byte, and the fields of that kind
 unfoldable pub step_at : Reading Step
-step_at r = u8_at r >>= step_of r.place
+step_at r = u8_at r >>= step_of r.offset

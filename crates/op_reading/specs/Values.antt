@@ -14,40 +14,40 @@ use Rattle.op_reading.specs.Reading.{Reading, made, ◌⊗◌, u8_at, u32_at, u6
 
 -- a text that passes a test; where it fails, the text can't be read
 abbrev pub tested_text : (List ℕ → Bool) → ℕ → List ℕ × Rest → Result (List ℕ × Rest) FormFault
-tested_text test place text = if test text.0 then Ok text else Err (NotForm place)
+tested_text test offset text = if test text.0 then Ok text else Err (NotForm offset)
 
 -- an id is a text of its form
 unfoldable pub id_at : Reading (List ℕ)
-id_at r = any_text_at r >>= tested_text is_id r.place
+id_at r = any_text_at r >>= tested_text is_id r.offset
 
 -- a byte 0 or 1
 abbrev pub flag_of : ℕ → ℕ × Rest → Result (Value × Rest) FormFault
-flag_of place byte = if byte.0 == 0 then Ok (Flag false, byte.1) else if byte.0 == 1 then Ok (Flag true, byte.1) else Err (NotForm place)
+flag_of offset byte = if byte.0 == 0 then Ok (Flag false, byte.1) else if byte.0 == 1 then Ok (Flag true, byte.1) else Err (NotForm offset)
 
 -- the next byte, as a flag
 unfoldable pub flag_at : Reading Value
-flag_at r = u8_at r >>= flag_of r.place
+flag_at r = u8_at r >>= flag_of r.offset
 
 -- a value: its kind's byte, and a text, a flag, a number in two's complement or a literal's number
 abbrev pub value_of : ℕ → ℕ × Rest → Result (Value × Rest) FormFault
-value_of place kind =
+value_of offset kind =
     if kind.0 == 1 then made (λ t. Text t) (any_text_at kind.1)
     else if kind.0 == 2 then flag_at kind.1
     else if kind.0 == 3 then made (λ n. Whole (cast_signed w64 n)) (u64_at kind.1)
     else if kind.0 == 4 then made (λ n. Literal n) (u32_at kind.1)
-    else Err (NotForm place)
+    else Err (NotForm offset)
 
 -- a value, by its kind's byte
 unfoldable pub value_at : Reading Value
-value_at r = u8_at r >>= value_of r.place
+value_at r = u8_at r >>= value_of r.offset
 
 -- a place: a byte 0, or a byte 1, the parent's id and the feature's number
 abbrev pub place_of : ℕ → ℕ × Rest → Result (Place × Rest) FormFault
-place_of place kind =
+place_of offset kind =
     if kind.0 == 0 then Ok (Root, kind.1)
     else if kind.0 == 1 then made (λ t. Inside t.0 t.1) ((id_at ⊗ u32_at) kind.1)
-    else Err (NotForm place)
+    else Err (NotForm offset)
 
 -- a place, by its first byte
 unfoldable pub place_at : Reading Place
-place_at r = u8_at r >>= place_of r.place
+place_at r = u8_at r >>= place_of r.offset

@@ -49,7 +49,7 @@ pub fn decode_event(alloc: Global, bytes: &[u8]) -> Result<Event, FormFault>
 fn take_kind(reader: &mut Reader<'_>) -> Result<OpKind, FormFault>
     ensures { Gives reader.new result (kind_at reader.old) }
 {
-    let at = reader.place();
+    let at = reader.offset();
     match reader.take_u8()? {
         1 => Ok(OpKind::Create),
         2 => Ok(OpKind::Delete),
@@ -65,7 +65,7 @@ fn take_kind(reader: &mut Reader<'_>) -> Result<OpKind, FormFault>
 fn take_name(alloc: Global, reader: &mut Reader<'_>) -> Result<Text, FormFault>
     ensures { Gives reader.new result (name_at reader.old) }
 {
-    let at = reader.place();
+    let at = reader.offset();
     let name = take_text(alloc, reader)?;
     if !is_name(name.as_str()) {
         return Err(FormFault::NotForm { at });
@@ -77,7 +77,7 @@ fn take_name(alloc: Global, reader: &mut Reader<'_>) -> Result<Text, FormFault>
 fn take_steps(alloc: Global, reader: &mut Reader<'_>) -> Result<List<Step>, FormFault>
     ensures { Gives reader.new result (some_at step_at reader.old) }
 {
-    let at = reader.place();
+    let at = reader.offset();
     let count = reader.take_u32()?;
     if count == 0 {
         return Err(FormFault::NotForm { at });
@@ -120,7 +120,7 @@ fn take_composite(alloc: Global, reader: &mut Reader<'_>) -> Result<Operation, F
 fn take_operation(alloc: Global, reader: &mut Reader<'_>) -> Result<Operation, FormFault>
     ensures { Gives reader.new result (operation_at reader.old) }
 {
-    let at = reader.place();
+    let at = reader.offset();
     match reader.take_u8()? {
         1 => take_simple(alloc, reader),
         2 => take_composite(alloc, reader),
@@ -154,7 +154,7 @@ fn operation_items(
 fn take_event(alloc: Global, reader: &mut Reader<'_>) -> Result<Event, FormFault>
     ensures { Gives reader.new result (event_at reader.old) }
 {
-    let at = reader.place();
+    let at = reader.offset();
     match reader.take_u8()? {
         1 => take_init(alloc, reader),
         2 => take_checkout(reader),

@@ -16,7 +16,7 @@ use std::alloc::Global;
 pub(crate) fn take_step(alloc: Global, reader: &mut Reader<'_>) -> Result<Step, FormFault>
     ensures { Gives reader.new result (step_at reader.old) }
 {
-    let at = reader.place();
+    let at = reader.offset();
     match reader.take_u8()? {
         1 => put(alloc, reader),
         2 => ins(alloc, reader),

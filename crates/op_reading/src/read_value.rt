@@ -23,7 +23,7 @@ pub(crate) fn take_text(alloc: Global, reader: &mut Reader<'_>) -> Result<Text, 
 pub(crate) fn take_id(alloc: Global, reader: &mut Reader<'_>) -> Result<Id, FormFault>
     ensures { Gives reader.new result (id_at reader.old) }
 {
-    let at = reader.place();
+    let at = reader.offset();
     let text = reader.take_text(alloc)?;
     match Id::read(alloc, text.as_str()) {
         Ok(id) => Ok(id),
@@ -36,7 +36,7 @@ pub(crate) fn take_id(alloc: Global, reader: &mut Reader<'_>) -> Result<Id, Form
 fn take_flag(reader: &mut Reader<'_>) -> Result<Value, FormFault>
     ensures { Gives reader.new result (flag_at reader.old) }
 {
-    let at = reader.place();
+    let at = reader.offset();
     match reader.take_u8()? {
         0 => Ok(Value::Flag(false)),
         1 => Ok(Value::Flag(true)),
@@ -49,7 +49,7 @@ fn take_flag(reader: &mut Reader<'_>) -> Result<Value, FormFault>
 pub(crate) fn take_value(alloc: Global, reader: &mut Reader<'_>) -> Result<Value, FormFault>
     ensures { Gives reader.new result (value_at reader.old) }
 {
-    let at = reader.place();
+    let at = reader.offset();
     match reader.take_u8()? {
         1 => Ok(Value::Text(take_text(alloc, reader)?)),
         2 => take_flag(reader),
@@ -67,7 +67,7 @@ pub(crate) fn take_value_if_any(
 ) -> Result<Option<Value>, FormFault>
     ensures { Gives reader.new result (option_at value_at reader.old) }
 {
-    let at = reader.place();
+    let at = reader.offset();
     match reader.take_u8()? {
         0 => Ok(None),
         1 => Ok(Some(take_value(alloc, reader)?)),
@@ -80,7 +80,7 @@ pub(crate) fn take_value_if_any(
 pub(crate) fn take_rank_if_any(reader: &mut Reader<'_>) -> Result<Option<u64>, FormFault>
     ensures { Gives reader.new result (option_at u64_at reader.old) }
 {
-    let at = reader.place();
+    let at = reader.offset();
     match reader.take_u8()? {
         0 => Ok(None),
         1 => Ok(Some(reader.take_u64()?)),
@@ -93,7 +93,7 @@ pub(crate) fn take_rank_if_any(reader: &mut Reader<'_>) -> Result<Option<u64>, F
 pub(crate) fn take_place(alloc: Global, reader: &mut Reader<'_>) -> Result<Place, FormFault>
     ensures { Gives reader.new result (place_at reader.old) }
 {
-    let at = reader.place();
+    let at = reader.offset();
     match reader.take_u8()? {
         0 => Ok(Place::Root),
         1 => {

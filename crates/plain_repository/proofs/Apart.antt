@@ -18,7 +18,7 @@ use Rattle.op_form.specs.declared.event.Event.TheVariants.{Drop, Evolve, Upgrade
 use Rattle.plain_repository.specs.State.{State, Workspace, untouched, workspace_of, recorded_steps, model_of, changed_by_number}
 use Rattle.ecore_meta.specs.Promised.{IsMetamodel}
 use Rattle.plain_repository.specs.Metamodels.{grown}
-use Rattle.plain_repository.specs.Orderly.{InOrder}
+use Rattle.plain_repository.specs.Orderly.{IsOrderlyWorkspace}
 use Rattle.history_tree.specs.declared.version.Signature.{Signature}
 use Rattle.plain_repository.specs.Commits.{version_of, committed, with_commit, moved_onto, with_new_branch}
 use Rattle.plain_repository.specs.Edits.{with_more}
@@ -122,7 +122,7 @@ unfolding play
 meta_now s meta now e begun could is = same_Some now (meta_after meta e) (sym is ∙ meta_left s meta e begun (asked s meta e begun could))
 
 -- an event leaves the model of each workspace, with the metamodel that is there then
-effect_model_stays : (meta : Meta) (s : State) (w : Workspace) → IsMetamodel meta → InOrder meta s.history w → (e : Event)
+effect_model_stays : (meta : Meta) (s : State) (w : Workspace) → IsMetamodel meta → IsOrderlyWorkspace meta s.history w → (e : Event)
     → IsTrue (playable_with s (Some meta) e)
     → model_of (meta_after meta e) (effect s e).history w ≡ model_of meta s.history w
 effect_model_stays meta s w is q =

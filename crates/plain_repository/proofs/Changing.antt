@@ -20,7 +20,7 @@ use Rattle.op_form.specs.Formed.{is_event, is_package, is_operation}
 use Rattle.plain_repository.specs.State.{State, Workspace, Composite as Open, untouched, there, workspace_of, open_steps, with_changed, changed_at}
 use Rattle.plain_repository.specs.State.{changed_by_number, is_closed, is_open}
 use Rattle.plain_repository.specs.Metamodels.{meta_of_read, can_evolve, grown, with_grown}
-use Rattle.plain_repository.specs.Checkouts.{dropped}
+use Rattle.plain_repository.specs.Checkouts.{with_drop}
 use Rattle.history_tree.specs.declared.version.Signature.{Signature}
 use Rattle.plain_repository.specs.Commits.{version_of, with_commit, with_new_branch, can_commit}
 use Rattle.plain_repository.specs.Edits.{added, with_more, can_follow}
@@ -181,7 +181,7 @@ gone : (ws : List (Option Workspace)) (k : ℕ) → of_number (changed_by_number
 gone ws zero = refl
 gone ws (suc n) = gone_at ws n
 
-drop_changes : (s : State) (k : ℕ) (o : Option Workspace) → workspace_of s k ≡ o → IsTrue (is_some o) → dropped k s ≡ s → ⊥
+drop_changes : (s : State) (k : ℕ) (o : Option Workspace) → workspace_of s k ≡ o → IsTrue (is_some o) → with_drop k s ≡ s → ⊥
 drop_changes s k None is could same = absurd cc
 drop_changes s k (Some w) is could same =
     absurd (none_some (sym (gone s.workspaces k) ∙ ap (λ (x : State). of_number x.workspaces k) same ∙ sym (is_of_number s k) ∙ is))

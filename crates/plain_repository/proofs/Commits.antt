@@ -26,12 +26,12 @@ use Rattle.script_lang.specs.declared.reply.Last.TheVariants as last
 use Rattle.plain_repository.specs.State.{State, Workspace, Composite as Open, workspace_of, open_steps, recorded_steps, model_of, is_closed, is_open, has_local}
 use Rattle.plain_repository.specs.Answers.{Decision, refused, most_events, by_fit, with_room}
 use Rattle.history_tree.specs.declared.version.Signature.{Signature}
-use Rattle.plain_repository.specs.Commits.{version_of, version_event, committed, with_commit, can_commit, version_made, commit_of, signed_of}
+use Rattle.plain_repository.specs.Commits.{version_of, version_event, committed, with_commit, can_commit, version_made, commit_in, signed_in}
 use Rattle.plain_repository.specs.Commits.{decide_commit, decide_signed}
 use Rattle.plain_repository.specs.Events.{effect, play, playable, playable_with}
 use Rattle.plain_repository.specs.Repository.{decide_with, decide_command}
 use Rattle.plain_repository.specs.Laws.{IsStale, HasWorkspace, version_command, CommitsAreStale, UnsignedAreRefused, OldFormsAreRefused, CommitsKeepModels}
-use Rattle.plain_repository.specs.Orderly.{Runs, steps_to, InOrder, Orderly}
+use Rattle.plain_repository.specs.Orderly.{Runs, steps_to, IsOrderlyWorkspace, Orderly}
 use Rattle.plain_repository.proofs.Apart.{differ, asked}
 use Rattle.plain_repository.proofs.Encodings.{and_left, and_right}
 use Rattle.plain_repository.proofs.Places.{of_number, is_of_number, same_number, at_number}
@@ -121,7 +121,7 @@ stale_is s meta begun ws w there base at d =
     record { meta = meta; begun = begun; workspace = w; there = there; base_is = d.base_is; head_is = d.head_is; apart = d.apart }
 
 module _ (s : State) (meta : Meta) (begun : s.meta ≡ Some meta) (ws : ℕ) (message : List ℕ) (base at : ℕ) where
-  commit_stale : (o : Option Workspace) → workspace_of s ws ≡ o → Says (commit_of s ws message o) (refusals.Stale base at)
+  commit_stale : (o : Option Workspace) → workspace_of s ws ≡ o → Says (commit_in s ws message o) (refusals.Stale base at)
       → (s.upgraded ≡ false) × IsStale s ws base at
   commit_stale None there e = cc
   commit_stale (Some w) there e = by s.upgraded refl e
@@ -132,7 +132,7 @@ module _ (s : State) (meta : Meta) (begun : s.meta ≡ Some meta) (ws : ℕ) (me
       by false is e = (is, stale_is s meta begun ws w there base at (made_stale s w (Commit ws message) base at e))
 
   signed_stale : (author : List ℕ) (moment : ℕ) (o : Option Workspace) → workspace_of s ws ≡ o
-      → Says (signed_of s ws author moment message o) (refusals.Stale base at) → (s.upgraded ≡ true) × IsStale s ws base at
+      → Says (signed_in s ws author moment message o) (refusals.Stale base at) → (s.upgraded ≡ true) × IsStale s ws base at
   signed_stale author moment None there e = cc
   signed_stale author moment (Some w) there e = by s.upgraded refl e
     where
@@ -157,12 +157,12 @@ module _ (s : State) (block : Option (List ℕ)) (ws : ℕ) (message : Option (L
   unfolding decide_commit decide_signed
   stale_comes None form i =
       ap (λ (m : Option Meta). (decide_with s m block (commands.Commit ws message)).reply.last) i.begun
-      ∙ ap (λ (o : Option Workspace). (commit_of s ws (unwrap_or message []) o).reply.last) i.there
+      ∙ ap (λ (o : Option Workspace). (commit_in s ws (unwrap_or message []) o).reply.last) i.there
       ∙ ap (λ (b : Bool). (cond b (refused refusals.Unsigned) (version_made s i.workspace (Commit ws (unwrap_or message [])))).reply.last) form
       ∙ stale_made s i.workspace (Commit ws (unwrap_or message [])) base at (record { base_is = i.base_is; head_is = i.head_is; apart = i.apart })
   stale_comes (Some x) form i =
       ap (λ (m : Option Meta). (decide_with s m block (commands.Signed ws x.author x.moment message)).reply.last) i.begun
-      ∙ ap (λ (o : Option Workspace). (signed_of s ws x.author x.moment (unwrap_or message []) o).reply.last) i.there
+      ∙ ap (λ (o : Option Workspace). (signed_in s ws x.author x.moment (unwrap_or message []) o).reply.last) i.there
       ∙ ap (λ (b : Bool). (cond b (version_made s i.workspace (Signed ws x.author x.moment (unwrap_or message []))) (refused refusals.OldForm)).reply.last) form
       ∙ stale_made s i.workspace (Signed ws x.author x.moment (unwrap_or message [])) base at
       (record { base_is = i.base_is; head_is = i.head_is; apart = i.apart })
@@ -189,7 +189,7 @@ made_not s w event refusal other stale composite nothing_local = by (not (nat_eq
     by false false false e = nothing_local (no_same refusals.NothingLocal refusal e)
 
 module _ (s : State) (meta : Meta) (begun : s.meta ≡ Some meta) (ws : ℕ) (message : List ℕ) where
-  commit_unsigned : (o : Option Workspace) → workspace_of s ws ≡ o → Says (commit_of s ws message o) refusals.Unsigned → HasWorkspace s ws × (s.upgraded ≡ true)
+  commit_unsigned : (o : Option Workspace) → workspace_of s ws ≡ o → Says (commit_in s ws message o) refusals.Unsigned → HasWorkspace s ws × (s.upgraded ≡ true)
   commit_unsigned None there e = cc
   commit_unsigned (Some w) there e = by s.upgraded refl e
     where
@@ -199,7 +199,7 @@ module _ (s : State) (meta : Meta) (begun : s.meta ≡ Some meta) (ws : ℕ) (me
       by false is e = absurd (made_not s w (Commit ws message) refusals.Unsigned unsigned_of_no_room (λ e. cc) (λ e. cc) (λ e. cc) e)
 
   signed_old : (author : List ℕ) (moment : ℕ) (o : Option Workspace) → workspace_of s ws ≡ o
-      → Says (signed_of s ws author moment message o) refusals.OldForm → HasWorkspace s ws × (s.upgraded ≡ false)
+      → Says (signed_in s ws author moment message o) refusals.OldForm → HasWorkspace s ws × (s.upgraded ≡ false)
   signed_old author moment None there e = cc
   signed_old author moment (Some w) there e = by s.upgraded refl e
     where
@@ -220,7 +220,7 @@ unsigned_comes : (s : State) (block : Option (List ℕ)) (ws : ℕ) (message : O
 unfolding decide_commit
 unsigned_comes s block ws message i form =
     ap (λ (m : Option Meta). (decide_with s m block (commands.Commit ws message)).reply.last) i.begun
-    ∙ ap (λ (o : Option Workspace). (commit_of s ws (unwrap_or message []) o).reply.last) i.there
+    ∙ ap (λ (o : Option Workspace). (commit_in s ws (unwrap_or message []) o).reply.last) i.there
     ∙ ap (λ (b : Bool). (cond b (refused refusals.Unsigned) (version_made s i.workspace (Commit ws (unwrap_or message [])))).reply.last) form
 
 pub unsigned_are_refused : UnsignedAreRefused
@@ -238,7 +238,7 @@ old_comes : (s : State) (block : Option (List ℕ)) (ws : ℕ) (author : List �
 unfolding decide_signed
 old_comes s block ws author moment message i form =
     ap (λ (m : Option Meta). (decide_with s m block (commands.Signed ws author moment message)).reply.last) i.begun
-    ∙ ap (λ (o : Option Workspace). (signed_of s ws author moment (unwrap_or message []) o).reply.last) i.there
+    ∙ ap (λ (o : Option Workspace). (signed_in s ws author moment (unwrap_or message []) o).reply.last) i.there
     ∙ ap (λ (b : Bool). (cond b (version_made s i.workspace (Signed ws author moment (unwrap_or message []))) (refused refusals.OldForm)).reply.last) form
 
 pub old_forms_are_refused : OldFormsAreRefused
@@ -264,8 +264,8 @@ module _ (s : State) (meta : Meta) (k : Orderly meta s) (ws : ℕ) (w : Workspac
   pub closed : is_closed (Some w) ≡ true
   closed = and_right (nat_eq w.base (head s.history w.branch)) (is_closed (Some w)) first
 
-  pub order : InOrder meta s.history w
-  order = at_number (InOrder meta s.history) s ws w there k.workspaces
+  pub order : IsOrderlyWorkspace meta s.history w
+  order = at_number (IsOrderlyWorkspace meta s.history) s ws w there k.workspaces
 
   -- the workspace has the same steps after it as before
   same_steps : (c : Option Open) → w.composite ≡ c → steps_to more n ++ recorded_steps (committed n w) ≡ steps_to s.history w.base ++ recorded_steps w

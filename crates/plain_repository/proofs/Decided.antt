@@ -39,7 +39,7 @@ use Rattle.history_tree.specs.Found.{found_by_number, branch_named, has_tag, is_
 use Rattle.history_tree.specs.History.{head, path}
 use Rattle.history_tree.specs.MergeBase.{is_among}
 use Rattle.history_tree.specs.Since.{path_after}
-use Rattle.history_tree.specs.States.{package_at}
+use Rattle.history_tree.specs.States.{package_of_version}
 use Rattle.history_tree.proofs.Greatest.{of_among}
 use Rattle.footprint.specs.declared.bucket.Bucket.{Bucket}
 use Rattle.merge_laws.specs.Choices.{are_choices}
@@ -51,7 +51,7 @@ use Rattle.op_form.specs.declared.event.Event.TheVariants.{Drop, Evolve, Upgrade
 use Rattle.op_form.specs.Events.{event_encoding}
 use Rattle.op_form.specs.Formed.{is_event, is_package}
 use Rattle.op_reading.specs.declared.fault.FormFault.{FormFault}
-use Rattle.op_reading.specs.Packages.{package_at as package_form_at}
+use Rattle.op_reading.specs.Packages.{package_at}
 use Rattle.op_reading.specs.Events.{whole_of}
 use Rattle.script_lang.specs.declared.command.Command.{Command}
 use Rattle.script_lang.specs.declared.command.Command.TheVariants as commands
@@ -60,22 +60,22 @@ use Rattle.script_lang.specs.declared.reply.Refusal.TheVariants as refusals
 use Rattle.script_lang.specs.Spelling.{IsCommand}
 use Rattle.plain_repository.specs.State.{State, Workspace, Composite as Open, workspace_of, model_of, is_open, is_closed, has_local, has_operations}
 use Rattle.plain_repository.specs.Answers.{Decision, refused, told, most_events, fits_record, by_fit, with_room}
-use Rattle.plain_repository.specs.Specs.{named}
+use Rattle.plain_repository.specs.Specs.{found_by_spec}
 use Rattle.plain_repository.specs.Metamodels.{with_metamodel, decide_init, extension_of, extended, evolve_read, decide_evolve}
-use Rattle.plain_repository.specs.Checkouts.{checkout_of, decide_checkout, drop_of, decide_drop}
-use Rattle.plain_repository.specs.Commits.{is_new_branch, can_commit, version_made, commit_of, decide_commit, signed_of, decide_signed}
-use Rattle.plain_repository.specs.Commits.{decide_upgrade, branch_of, decide_branch, tag_of, decide_tag}
+use Rattle.plain_repository.specs.Checkouts.{checkout_found, decide_checkout, drop_in, decide_drop}
+use Rattle.plain_repository.specs.Commits.{is_new_branch, can_commit, version_made, commit_in, decide_commit, signed_in, decide_signed}
+use Rattle.plain_repository.specs.Commits.{decide_upgrade, branch_in, decide_branch, tag_found, decide_tag}
 use Rattle.plain_repository.specs.Edits.{takes, can_follow, id_words, with_operation, edited, edit_in, decide_edit, imported, import_read, import_in}
 use Rattle.plain_repository.specs.Edits.{decide_import}
-use Rattle.plain_repository.specs.Composites.{can_begin, begun, decide_begin, ended, decide_end}
-use Rattle.plain_repository.specs.Local.{can_undo, can_discard, undone, decide_undo, discarded, decide_discard}
-use Rattle.plain_repository.specs.Tidying.{can_tidy, tidy_of, decide_tidy}
+use Rattle.plain_repository.specs.Composites.{can_begin, begin_in, decide_begin, end_in, decide_end}
+use Rattle.plain_repository.specs.Local.{can_undo, can_discard, undo_in, decide_undo, discard_in, decide_discard}
+use Rattle.plain_repository.specs.Tidying.{can_tidy, tidy_in, decide_tidy}
 use Rattle.plain_repository.specs.Applying.{with_operations, applied, apply_read, apply_in, decide_apply, bytes_of_lines, load_read, load_bytes}
 use Rattle.plain_repository.specs.Applying.{load_in, decide_load, taken_out, revert_found, revert_in, decide_revert}
 use Rattle.plain_repository.specs.Choices.{chosen}
 use Rattle.plain_repository.specs.Merging.{update_buckets, can_update, update_in, decide_update, is_other_branch, has_theirs, merge_buckets}
 use Rattle.plain_repository.specs.Merging.{can_merge, merge_named, merge_in, decide_merge}
-use Rattle.plain_repository.specs.Views.{changes_of, decide_changes, shown, decide_show, validated, decide_validate, text_of, decide_cat, package_of}
+use Rattle.plain_repository.specs.Views.{changes_in, decide_changes, show_in, decide_show, validate_in, decide_validate, cat_found, decide_cat, package_found}
 use Rattle.plain_repository.specs.Views.{decide_package, decide_log}
 use Rattle.plain_repository.specs.Repository.{block_text, decide_begun, decide_with, decide_command}
 use Rattle.plain_repository.specs.Events.{playable, playable_with, suits}
@@ -178,36 +178,36 @@ module _ (s : State) (meta : Meta) (has : HasMetamodel s meta) where
       → test (Some w) ≡ true → Could s (with_room s lines words e)
   could_in lines words e suited ws test w there tests can = could lines words e suited (tests ∙ ap test there ∙ can)
 
-  checkout_could : (spec : Spec) (found : Result Found FindFault) → named s.history spec ≡ found → Could s (checkout_of s meta found)
+  checkout_could : (spec : Spec) (found : Result Found FindFault) → found_by_spec s.history spec ≡ found → Could s (checkout_found s meta found)
   checkout_could spec (Err fault) is = none refl
   checkout_could spec (Ok found) is = could _ _ (Checkout found.version found.branch) refl (named_there s.history order.whole spec found is)
 
-  drop_could : (ws : ℕ) (o : Option Workspace) → workspace_of s ws ≡ o → Could s (drop_of s ws o)
+  drop_could : (ws : ℕ) (o : Option Workspace) → workspace_of s ws ≡ o → Could s (drop_in s ws o)
   drop_could ws None there = none refl
   drop_could ws (Some w) there = could_in _ _ (Drop ws) refl ws is_some w there refl refl
 
   -- ---- composites and what is local
-  begin_could : (ws : ℕ) (name : List ℕ) → is_name name ≡ true → (o : Option Workspace) → workspace_of s ws ≡ o → Could s (begun s ws name o)
+  begin_could : (ws : ℕ) (name : List ℕ) → is_name name ≡ true → (o : Option Workspace) → workspace_of s ws ≡ o → Could s (begin_in s ws name o)
   begin_could ws name is None there = none refl
   begin_could ws name is (Some w) there =
       unless (is_open (Some w)) (none refl) (λ shut. could_in _ _ (Begin ws name) refl ws (can_begin name) w there refl
       (and_from (is_name name) (is_closed (Some w)) is (ap not shut)))
 
-  end_could : (ws : ℕ) (o : Option Workspace) → workspace_of s ws ≡ o → Could s (ended s ws o)
+  end_could : (ws : ℕ) (o : Option Workspace) → workspace_of s ws ≡ o → Could s (end_in s ws o)
   end_could ws None there = none refl
   end_could ws (Some w) there = if_only (is_open (Some w)) (λ opened. could_in _ _ (End ws) refl ws is_open w there refl opened) (none refl)
 
-  undo_could : (ws : ℕ) (o : Option Workspace) → workspace_of s ws ≡ o → Could s (undone s ws o)
+  undo_could : (ws : ℕ) (o : Option Workspace) → workspace_of s ws ≡ o → Could s (undo_in s ws o)
   undo_could ws None there = none refl
   undo_could ws (Some w) there =
       unless (is_open (Some w)) (none refl) (λ shut. if_only (has_operations (Some w)) (λ some.
       could_in _ _ (Undo ws) refl ws can_undo w there refl (and_from (is_closed (Some w)) (has_operations (Some w)) (ap not shut) some)) (none refl))
 
-  discard_could : (ws : ℕ) (o : Option Workspace) → workspace_of s ws ≡ o → Could s (discarded s ws o)
+  discard_could : (ws : ℕ) (o : Option Workspace) → workspace_of s ws ≡ o → Could s (discard_in s ws o)
   discard_could ws None there = none refl
   discard_could ws (Some w) there = if_only (can_discard (Some w)) (λ some. could_in _ _ (Discard ws) refl ws can_discard w there refl some) (none refl)
 
-  tidy_could : (ws : ℕ) (o : Option Workspace) → workspace_of s ws ≡ o → Could s (tidy_of s meta ws o)
+  tidy_could : (ws : ℕ) (o : Option Workspace) → workspace_of s ws ≡ o → Could s (tidy_in s meta ws o)
   tidy_could ws None there = none refl
   tidy_could ws (Some w) there =
       unless (is_open (Some w)) (none refl) (λ shut. unless (is_tidy meta w.operations) (none refl) (λ untidy.
@@ -224,13 +224,13 @@ module _ (s : State) (meta : Meta) (has : HasMetamodel s meta) where
       could _ _ event suited (can (and_from (at_head && is_closed (Some w)) (has_local (Some w)) closed some)))
       (none refl)))
 
-  commit_could : (ws : ℕ) (message : List ℕ) (o : Option Workspace) → workspace_of s ws ≡ o → Could s (commit_of s ws message o)
+  commit_could : (ws : ℕ) (message : List ℕ) (o : Option Workspace) → workspace_of s ws ≡ o → Could s (commit_in s ws message o)
   commit_could ws message None there = none refl
   commit_could ws message (Some w) there =
       unless s.upgraded (none refl) (λ old. version_could w (Commit ws message) (ap not old) (λ can. ap (can_commit s.history) there ∙ can))
 
   signed_could : (ws : ℕ) (author : List ℕ) (moment : ℕ) (message : List ℕ) → is_name author ≡ true → (o : Option Workspace) → workspace_of s ws ≡ o
-      → Could s (signed_of s ws author moment message o)
+      → Could s (signed_in s ws author moment message o)
   signed_could ws author moment message is None there = none refl
   signed_could ws author moment message is (Some w) there =
       if_only s.upgraded (λ new. version_could w (Signed ws author moment message) new
@@ -249,7 +249,7 @@ module _ (s : State) (meta : Meta) (has : HasMetamodel s meta) where
           (ap (λ (r : Result Meta EcoreFault). is_some (extension_of meta r)) is
           ∙ (λ i. is_some (cond (is_none (kept_is i) && not (other i)) (Some (evolved meta next)) None))))
 
-  branch_could : (ws : ℕ) (name : List ℕ) → is_name name ≡ true → (o : Option Workspace) → workspace_of s ws ≡ o → Could s (branch_of s ws name o)
+  branch_could : (ws : ℕ) (name : List ℕ) → is_name name ≡ true → (o : Option Workspace) → workspace_of s ws ≡ o → Could s (branch_in s ws name o)
   branch_could ws name is None there = none refl
   branch_could ws name is (Some w) there =
       unless (is_open (Some w)) (none refl) (λ shut. if_only (is_new_branch s.history name) (λ new.
@@ -258,7 +258,7 @@ module _ (s : State) (meta : Meta) (has : HasMetamodel s meta) where
       (and_from (is_name name && is_new_branch s.history name) (is_closed (Some w)) front (ap not shut))) (none refl))
 
   tag_could : (name : List ℕ) → is_name name ≡ true → has_tag s.history name ≡ false → (spec : Spec) (found : Result Found FindFault)
-      → named s.history spec ≡ found → Could s (tag_of s name found)
+      → found_by_spec s.history spec ≡ found → Could s (tag_found s name found)
   tag_could name is new spec (Err fault) found_is = none refl
   tag_could name is new spec (Ok found) found_is =
       let h = s.history in
@@ -377,7 +377,7 @@ module _ (s : State) (meta : Meta) (has : HasMetamodel s meta) where
 
   apply_could : (ws : ℕ) (bytes : List ℕ) (o : Option Workspace) → workspace_of s ws ≡ o → Could s (apply_in s meta ws o bytes)
   apply_could ws bytes None there = none refl
-  apply_could ws bytes (Some w) there = unless (is_open (Some w)) (none refl) (λ shut. by shut (whole_of package_form_at bytes))
+  apply_could ws bytes (Some w) there = unless (is_open (Some w)) (none refl) (λ shut. by shut (whole_of package_at bytes))
     where
       by : is_open (Some w) ≡ false → (r : Result (List Operation) FormFault) → Could s (apply_read s meta ws w r)
       by shut (Err fault) = none refl
@@ -393,16 +393,16 @@ module _ (s : State) (meta : Meta) (has : HasMetamodel s meta) where
 
       by_bytes : (o : Option (List ℕ)) → Could s (load_bytes s meta ws w o)
       by_bytes None = none refl
-      by_bytes (Some bytes) = by_read (whole_of package_form_at bytes)
+      by_bytes (Some bytes) = by_read (whole_of package_at bytes)
 
   taken_out_could : (ws : ℕ) (w : Workspace) → workspace_of s ws ≡ Some w → is_open (Some w) ≡ false → (v : ℕ) → is_among (path s.history w.base) v ≡ true
       → (o : Option ℕ)
-      → first_interfering meta s.history.versions (package_at s.history.versions v) (path_after s.history v w.base) ≡ o
-      → Could s (taken_out s meta ws w (package_at s.history.versions v) o)
+      → first_interfering meta s.history.versions (package_of_version s.history.versions v) (path_after s.history v w.base) ≡ o
+      → Could s (taken_out s meta ws w (package_of_version s.history.versions v) o)
   taken_out_could ws w there shut v on (Some u) is = none refl
   taken_out_could ws w there shut v on None is =
       let h = s.history in
-      let taken = package_at h.versions v in
+      let taken = package_of_version h.versions v in
       unless (have_pair meta taken w.operations) (none refl) (λ apart. operations_could ws w there (rev_package taken) (λ x xs same.
       revert_follows meta order.metamodel.sound h order.whole order.versions w (in_order s meta w (here ws w there)) (ap not shut) v
       (of_among (path h w.base) v on) is apart x xs same))
@@ -416,25 +416,25 @@ module _ (s : State) (meta : Meta) (has : HasMetamodel s meta) where
       by shut (Ok found) = if_only (is_among (path s.history w.base) found.version) (λ on. taken_out_could ws w there shut found.version on _ refl) (none refl)
 
   -- ---- what is shown makes no event
-  changes_none : (o : Option Workspace) → Could s (changes_of meta o)
+  changes_none : (o : Option Workspace) → Could s (changes_in meta o)
   changes_none None = none refl
   changes_none (Some w) = none refl
 
-  shown_none : (o : Option Workspace) → Could s (shown meta s.history o)
+  shown_none : (o : Option Workspace) → Could s (show_in meta s.history o)
   shown_none None = none refl
   shown_none (Some w) = none refl
 
-  validated_none : (o : Option Workspace) → Could s (validated meta s.history o)
+  validated_none : (o : Option Workspace) → Could s (validate_in meta s.history o)
   validated_none None = none refl
   validated_none (Some w) = none refl
 
-  text_none : (r : Result Found FindFault) → Could s (text_of meta s.history r)
+  text_none : (r : Result Found FindFault) → Could s (cat_found meta s.history r)
   text_none (Err fault) = none refl
   text_none (Ok found) = none refl
 
-  package_none : (r : Result Found FindFault) → Could s (package_of meta s.history r)
+  package_none : (r : Result Found FindFault) → Could s (package_found meta s.history r)
   package_none (Err fault) = none refl
-  package_none (Ok found) = either (is_package (package_at s.history.versions found.version)) (λ _. none refl) (λ _. none refl)
+  package_none (Ok found) = either (is_package (package_of_version s.history.versions found.version)) (λ _. none refl) (λ _. none refl)
 
   command_could : (block : Option (List ℕ)) (command : Command) → IsCommand command → GivesNumbers s block command → Could s (decide_begun s meta block command)
   unfolding decide_init decide_evolve decide_checkout decide_drop decide_commit decide_signed decide_upgrade decide_branch decide_tag decide_edit
@@ -442,7 +442,7 @@ module _ (s : State) (meta : Meta) (has : HasMetamodel s meta) where
       decide_changes decide_show decide_validate decide_cat decide_package decide_log
   command_could block commands.Init form gives = none refl
   command_could block commands.Evolve form gives = evolve_could (block_text block) (metamodel_of (block_text block)) refl
-  command_could block (commands.Checkout spec) form gives = checkout_could spec (named s.history spec) refl
+  command_could block (commands.Checkout spec) form gives = checkout_could spec (found_by_spec s.history spec) refl
   command_could block (commands.Edit ws edit) form gives = edit_could ws edit (workspace_of s ws) refl
   command_could block (commands.Import ws) form gives = import_could block ws gives (workspace_of s ws) refl
   command_could block (commands.Load ws) form gives = load_could ws (block_text block) (workspace_of s ws) refl
@@ -454,16 +454,16 @@ module _ (s : State) (meta : Meta) (has : HasMetamodel s meta) where
   command_could block (commands.Apply ws bytes) form gives = apply_could ws bytes (workspace_of s ws) refl
   command_could block (commands.Changes ws) form gives = changes_none (workspace_of s ws)
   command_could block (commands.Show ws) form gives = shown_none (workspace_of s ws)
-  command_could block (commands.Cat spec) form gives = text_none (named s.history spec)
+  command_could block (commands.Cat spec) form gives = text_none (found_by_spec s.history spec)
   command_could block (commands.Validate ws) form gives = validated_none (workspace_of s ws)
   command_could block (commands.Commit ws message) form gives = commit_could ws (unwrap_or message []) (workspace_of s ws) refl
   command_could block (commands.Signed ws author moment message) form gives =
       signed_could ws author moment (unwrap_or message []) form.1 (workspace_of s ws) refl
   command_could block (commands.Branch ws name) form gives = branch_could ws name form.1 (workspace_of s ws) refl
   command_could block (commands.Tag name spec) form gives =
-      unless (has_tag s.history name) (none refl) (λ new. tag_could name form.0 new spec (named s.history spec) refl)
+      unless (has_tag s.history name) (none refl) (λ new. tag_could name form.0 new spec (found_by_spec s.history spec) refl)
   command_could block commands.Log form gives = none refl
-  command_could block (commands.Package spec) form gives = package_none (named s.history spec)
+  command_could block (commands.Package spec) form gives = package_none (found_by_spec s.history spec)
   command_could block (commands.Update ws choices) form gives = update_could ws choices (workspace_of s ws) refl
   command_could block (commands.Merge ws branch choices) form gives = merge_could ws branch choices (workspace_of s ws) refl
   command_could block (commands.Revert ws version) form gives = revert_could ws version (workspace_of s ws) refl

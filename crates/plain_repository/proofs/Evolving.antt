@@ -24,14 +24,14 @@ use Rattle.model_laws.proofs.Start.{starts_good}
 use Rattle.model_laws.proofs.Runs.{steps_keep_good}
 use Rattle.history_tree.specs.History.{History}
 use Rattle.history_tree.specs.States.{state_of}
-use Rattle.state_form.specs.Form.{IsStateForm}
+use Rattle.state_form.specs.Form.{IsStateEncoding}
 use Rattle.op_form.specs.declared.event.Event.{Event}
 use Rattle.op_form.specs.declared.event.Event.TheVariants.{Init, Checkout, Edit, Begin, End, Undo, Discard, Tidy, Commit, Branch, Tag, Update, Merge}
 use Rattle.op_form.specs.declared.event.Event.TheVariants.{Drop, Evolve, Upgrade, Signed}
 use Rattle.plain_repository.specs.State.{State, Workspace, folded, model_of, recorded_steps}
 use Rattle.plain_repository.specs.Metamodels.{extension_of, can_evolve, grown}
 use Rattle.plain_repository.specs.Events.{meta_after}
-use Rattle.plain_repository.specs.Orderly.{InOrder, IsRun, Orderly, Runs, RunsTo, steps_to}
+use Rattle.plain_repository.specs.Orderly.{IsOrderlyWorkspace, IsRun, Orderly, Runs, RunsTo, steps_to}
 use Rattle.plain_repository.proofs.Encodings.{and_left, and_right, not_so}
 use Rattle.plain_repository.proofs.Places.{all_weaker}
 use Rattle.plain_repository.proofs.Runs.{version_model, workspace_folded, workspace_model}
@@ -101,7 +101,7 @@ module _ (old new : Meta) (grew : Evolves old new) where
     heads = orderly.heads;
     names = orderly.names;
     versions = λ v within. run_stays (steps_to s.history v) (orderly.versions v within);
-    workspaces = all_weaker (InOrder old s.history) (InOrder new s.history)
+    workspaces = all_weaker (IsOrderlyWorkspace old s.history) (IsOrderlyWorkspace new s.history)
         (λ w h. record { stands = h.stands; runs = run_stays (steps_to s.history w.base ++ recorded_steps w) h.runs }) s.workspaces orderly.workspaces;
   }
 
@@ -123,7 +123,7 @@ module _ (old new : Meta) (grew : Evolves old new) where
       (workspace_folded new h w (run_stays steps r) ∙ ap Some same, growth_keeps_good old new grew m (subst (Good old) same good))
 
   -- bytes that stand for a state do so still
-  pub form_stays : (m : models.State) (bytes : List ℕ) → IsStateForm old m bytes → IsStateForm new m bytes
+  pub form_stays : (m : models.State) (bytes : List ℕ) → IsStateEncoding old m bytes → IsStateEncoding new m bytes
   form_stays m bytes form = record {
     operations = form.operations;
     spelled = form.spelled;

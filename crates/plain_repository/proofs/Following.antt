@@ -10,7 +10,7 @@ use Rattle.model_state.specs.Packages.{steps_of, fold_package}
 use Rattle.model_state.specs.Good.{Good, Sound}
 use Rattle.edits.specs.declared.edit.Edit.{Edit}
 use Rattle.edits.specs.declared.edit.Recorded.{Recorded}
-use Rattle.edits.specs.Edits.{after}
+use Rattle.edits.specs.Edits.{after_effect}
 use Rattle.edits.specs.Answers.{steps_in}
 use Rattle.edits.specs.Recording.{recorded}
 use Rattle.edits.proofs.Recordings.{recording_leads}
@@ -30,8 +30,8 @@ pub edit_follows : (meta : Meta) → Sound meta → (m : State) → Good meta m 
     → is_some (fold_package meta m (o ∷ [])) ≡ true
 edit_follows meta sound m good ws edit r o is operation_is =
     let leads = recording_leads meta sound m good ws edit r is in
-    one_follows meta m (after meta m leads.effect) o (subst
-    (λ (x : Option Operation). fold meta m (steps_in x) ≡ Some (after meta m leads.effect)) operation_is leads.run)
+    one_follows meta m (after_effect meta m leads.effect) o (subst
+    (λ (x : Option Operation). fold meta m (steps_in x) ≡ Some (after_effect meta m leads.effect)) operation_is leads.run)
 
 -- what is recorded of a document that was read, where the ids that it gives have numbers
 pub import_follows : (meta : Meta) → IsMetamodel meta → (m : State) → Good meta m → (ws : ℕ) (text : List ℕ) (rows : List DocRow) (o : Operation)

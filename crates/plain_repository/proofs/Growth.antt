@@ -10,14 +10,14 @@ use Rattle.plain_repository.specs.State.{State, Workspace, workspace_of}
 use Rattle.history_tree.specs.declared.version.Signature.{Signature}
 use Rattle.plain_repository.specs.Commits.{version_of, with_commit, with_new_branch}
 use Rattle.plain_repository.specs.Events.{effect, play, playable, playable_with}
-use Rattle.plain_repository.specs.Laws.{Extends, Grows, HistoryOnlyGrows}
+use Rattle.plain_repository.specs.Laws.{IsPrefix, Grows, HistoryOnlyGrows}
 use Rattle.plain_repository.specs.Orderly.{AllOrderly}
 use Rattle.plain_repository.proofs.Encodings.{and_right}
 
-same_list : {X : Type 0} (xs : List X) → Extends xs xs
+same_list : {X : Type 0} (xs : List X) → IsPrefix xs xs
 same_list xs = ([], sym (append-nil xs))
 
-one_more : {X : Type 0} (xs : List X) (x : X) → Extends xs (xs ++ x ∷ [])
+one_more : {X : Type 0} (xs : List X) (x : X) → IsPrefix xs (xs ++ x ∷ [])
 one_more xs x = (x ∷ [], refl)
 
 same_history : (h : History) → Grows h h

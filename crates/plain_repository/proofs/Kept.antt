@@ -32,7 +32,7 @@ use Rattle.op_form.specs.declared.event.Event.TheVariants.{Drop, Evolve, Upgrade
 use Rattle.plain_repository.specs.State.{State, Workspace, Composite as Open, empty, untouched, workspace_of, recorded_steps, open_steps}
 use Rattle.plain_repository.specs.State.{with_changed, changed_by_number, is_closed, has_operations, has_local}
 use Rattle.plain_repository.specs.Metamodels.{meta_of_read, grown}
-use Rattle.plain_repository.specs.Checkouts.{checked_out, can_check_out}
+use Rattle.plain_repository.specs.Checkouts.{with_checkout, can_check_out}
 use Rattle.history_tree.specs.declared.version.Signature.{Signature}
 use Rattle.plain_repository.specs.Commits.{version_of, committed, with_commit, can_commit, moved_onto, with_new_branch, is_new_branch, with_new_tag}
 use Rattle.plain_repository.specs.Edits.{added, with_more, can_follow}
@@ -43,7 +43,7 @@ use Rattle.merge_laws.specs.Choices.{are_choices}
 use Rattle.plain_repository.specs.Tidying.{tidied, can_tidy}
 use Rattle.plain_repository.specs.Merging.{update_buckets, updated, can_update, merge_buckets, merged_with, is_other_branch, has_theirs, can_merge}
 use Rattle.plain_repository.specs.Events.{by_meta, effect, meta_after, play, playable, playable_with, are_playable}
-use Rattle.plain_repository.specs.Orderly.{RunsTo, Runs, steps_to, StandsInHistory, InOrder, HeadsLead, IfThere, Orderly, AllOrderly, IsOrderly}
+use Rattle.plain_repository.specs.Orderly.{RunsTo, Runs, steps_to, StandsInHistory, IsOrderlyWorkspace, HeadsLead, IfThere, Orderly, AllOrderly, IsOrderly}
 use Rattle.plain_repository.proofs.Encodings.{and_left, and_right, not_so, playable_is_event}
 use Rattle.plain_repository.proofs.Evolving.{grown_is, order_stays}
 use Rattle.plain_repository.proofs.Merged.{tidied_led, updated_led, merged_led}
@@ -55,7 +55,7 @@ use Rattle.plain_repository.proofs.Runs.{same_run, untouched_runs, more_runs, op
 -- ---- workspaces
 -- a change that leaves branch, base and pending list leaves the workspace in order where its steps are a run
 in_order : (meta : Meta) (h : History) (v w : Workspace) → v.branch ≡ w.branch → v.base ≡ w.base → v.pending ≡ w.pending → StandsInHistory h w
-    → Runs meta h v → InOrder meta h v
+    → Runs meta h v → IsOrderlyWorkspace meta h v
 in_order meta h v w branch base pending stands runs = record {
   stands = record {
     branch = subst (λ b. b < length h.branches) (sym branch) stands.branch;
@@ -70,32 +70,33 @@ none_pending : (n : ℕ) → All (λ v. v < n) []
 none_pending n k d within = absurd (omega (arith, within))
 
 untouched_in_order : (meta : Meta) (h : History) (branch base : ℕ) → branch < length h.branches → base < length h.versions
-    → Contains (path h (head h branch)) base → RunsTo meta h base → InOrder meta h (untouched branch base)
+    → Contains (path h (head h branch)) base → RunsTo meta h base → IsOrderlyWorkspace meta h (untouched branch base)
 untouched_in_order meta h branch base first second on run = record {
   stands = record { branch = first; base = second; on_path = on; pending = none_pending (length h.versions) };
   runs = untouched_runs meta h branch base run;
 }
 
 more_in_order : (meta : Meta) (h : History) (more : List Operation) → AllByRecursion IsOperation more → (w : Workspace)
-    → can_follow meta h (Some w) more ≡ true → InOrder meta h w → InOrder meta h (with_more more w)
+    → can_follow meta h (Some w) more ≡ true → IsOrderlyWorkspace meta h w → IsOrderlyWorkspace meta h (with_more more w)
 more_in_order meta h more spelled w can r = by w.composite refl
   where
-    by : (c : Option Open) → w.composite ≡ c → InOrder meta h (added more c w)
+    by : (c : Option Open) → w.composite ≡ c → IsOrderlyWorkspace meta h (added more c w)
     by None is = in_order meta h (added more None w) w refl refl refl r.stands (more_runs meta h more spelled w can r.runs None is)
     by (Some c) is = in_order meta h (added more (Some c) w) w refl refl refl r.stands (more_runs meta h more spelled w can r.runs (Some c) is)
 
 -- ---- events that leave the history
 -- what holds of the workspaces, with the history and the metamodel as they are
-with_workspaces : (meta : Meta) (s : State) (ws : List (Option Workspace)) → Orderly meta s → AllByRecursion (IfThere (InOrder meta s.history)) ws
+with_workspaces : (meta : Meta) (s : State) (ws : List (Option Workspace)) → Orderly meta s → AllByRecursion (IfThere (IsOrderlyWorkspace meta s.history)) ws
     → Orderly meta (record s { workspaces = ws })
 with_workspaces meta s ws kept all =
     record { metamodel = kept.metamodel; whole = kept.whole; heads = kept.heads; names = kept.names; versions = kept.versions; workspaces = all }
 
 changed_kept : (meta : Meta) (s : State) (change : Workspace → Workspace) (k : ℕ) → Orderly meta s
-    → ((w : Workspace) → workspace_of s k ≡ Some w → InOrder meta s.history w → InOrder meta s.history (change w)) → Orderly meta (with_changed change k s)
+    → ((w : Workspace) → workspace_of s k ≡ Some w → IsOrderlyWorkspace meta s.history w → IsOrderlyWorkspace meta s.history (change w))
+    → Orderly meta (with_changed change k s)
 changed_kept meta s change k kept keeps =
     with_workspaces meta s (changed_by_number (option_map change) s.workspaces k) kept
-    (number_changed (InOrder meta s.history) (InOrder meta s.history) (λ w r. r) change s k keeps kept.workspaces)
+    (number_changed (IsOrderlyWorkspace meta s.history) (IsOrderlyWorkspace meta s.history) (λ w r. r) change s k keeps kept.workspaces)
 
 -- what was tested of the workspace of a number is used of it
 found : (s : State) (k : ℕ) (P : Option Workspace → Type 0) → P (workspace_of s k) → (w : Workspace) → workspace_of s k ≡ Some w → P (Some w)
@@ -122,14 +123,14 @@ checkout_on_path h whole heads version branch within o there on = by o there on
     by (Some v) there on = on_branch v there (nat_eq v.branch branch) refl on
 
 checkout_kept : (meta : Meta) (s : State) (version branch : ℕ) → can_check_out s.history version branch ≡ true → Orderly meta s
-    → Orderly meta (checked_out version branch s)
+    → Orderly meta (with_checkout version branch s)
 checkout_kept meta s version branch can kept =
     let h : History = s.history in
     let in_versions : version < length h.versions = ltb-true version (length h.versions) (and_left _ _ (and_left _ _ can)) in
     let in_branches : branch < length h.branches =
     ltb-true branch (length h.branches) (and_right (nat_lt version (length h.versions)) (nat_lt branch (length h.branches)) (and_left _ _ can)) in
     with_workspaces meta s (s.workspaces ++ Some (untouched branch version) ∷ []) kept
-    (both (IfThere (InOrder meta h)) s.workspaces (Some (untouched branch version) ∷ []) kept.workspaces (
+    (both (IfThere (IsOrderlyWorkspace meta h)) s.workspaces (Some (untouched branch version) ∷ []) kept.workspaces (
       untouched_in_order meta h branch version in_branches in_versions
           (checkout_on_path h kept.whole kept.heads version branch in_versions (slice_get h.versions version) refl
           (and_right (nat_lt version (length h.versions) && nat_lt branch (length h.branches)) _ can))
@@ -153,7 +154,7 @@ signature_whole None = refl
 signature_whole (Some x) = refl
 
 module _ (meta : Meta) (s : State) (kept : Orderly meta s) (signature : Option Signature) (message : List ℕ) (w : Workspace)
-    (r : InOrder meta s.history w) (at_head : w.base ≡ head s.history w.branch) (closed : is_closed (Some w) ≡ true) where
+    (r : IsOrderlyWorkspace meta s.history w) (at_head : w.base ≡ head s.history w.branch) (closed : is_closed (Some w) ≡ true) where
   abbrev h : History
   h = s.history
 
@@ -208,7 +209,7 @@ module _ (meta : Meta) (s : State) (kept : Orderly meta s) (signature : Option S
       ]
 
   -- the other workspaces stay in order
-  commit_others : (v : Workspace) → InOrder meta h v → InOrder meta more v
+  commit_others : (v : Workspace) → IsOrderlyWorkspace meta h v → IsOrderlyWorkspace meta more v
   commit_others v q = record {
     stands = record {
       branch = q.stands.branch;
@@ -222,7 +223,7 @@ module _ (meta : Meta) (s : State) (kept : Orderly meta s) (signature : Option S
   }
 
   -- the workspace stands at the new version, with nothing local
-  pub commit_itself : (c : Option Open) → w.composite ≡ c → InOrder meta more (committed n w)
+  pub commit_itself : (c : Option Open) → w.composite ≡ c → IsOrderlyWorkspace meta more (committed n w)
   commit_itself None is = record {
     stands = record { branch = r.stands.branch; base = omega (arith, longer); on_path = last_on_path; pending = none_pending _ };
     runs = same_run meta (steps_to more n ++ recorded_steps (committed n w)) (steps_to more n)
@@ -240,14 +241,14 @@ module _ (meta : Meta) (s : State) (kept : Orderly meta s) (signature : Option S
     heads = commit_heads;
     names = version_names s.history (version_of w signature message) kept.names;
     versions = commit_versions;
-    workspaces = number_changed (InOrder meta h) (InOrder meta more) commit_others (committed n) s k
+    workspaces = number_changed (IsOrderlyWorkspace meta h) (IsOrderlyWorkspace meta more) commit_others (committed n) s k
         (λ v at q. let same : w ≡ v = same_Some w v (sym there ∙ at)
-        in subst (λ (u : Workspace). InOrder meta more (committed n u)) same (commit_itself w.composite refl)) kept.workspaces;
+        in subst (λ (u : Workspace). IsOrderlyWorkspace meta more (committed n u)) same (commit_itself w.composite refl)) kept.workspaces;
   }
 
 -- ---- Branch
 branch_kept : (meta : Meta) (s : State) → Orderly meta s → (name : List ℕ) → is_name name ≡ true → is_new_branch s.history name ≡ true
-    → (w : Workspace) → InOrder meta s.history w → (k : ℕ) → workspace_of s k ≡ Some w → Orderly meta (with_new_branch k name (Some w) s)
+    → (w : Workspace) → IsOrderlyWorkspace meta s.history w → (k : ℕ) → workspace_of s k ≡ Some w → Orderly meta (with_new_branch k name (Some w) s)
 branch_kept meta s kept name is new w r k there =
     let h : History = s.history in
     let more : History = with_branch h name w.base in
@@ -263,7 +264,7 @@ branch_kept meta s kept name is new w r k there =
           (All-at (λ (v : Version). v.branch < length h.branches) h.versions v version at kept.whole.branches))) (kept.heads v version at);
       names = branch_names h name w.base kept.names is new;
       versions = kept.versions;
-      workspaces = number_changed (InOrder meta h) (InOrder meta more)
+      workspaces = number_changed (IsOrderlyWorkspace meta h) (IsOrderlyWorkspace meta more)
           (λ v q. record {
             stands = record {
               branch = omega (arith, q.stands.branch, longer);
@@ -298,7 +299,7 @@ tag_kept meta s kept name version is new within = record {
   heads = kept.heads;
   names = tag_names s.history name version kept.names is new;
   versions = kept.versions;
-  workspaces = all_weaker (InOrder meta s.history) (InOrder meta (with_tag s.history name version)) (λ w q. record {
+  workspaces = all_weaker (IsOrderlyWorkspace meta s.history) (IsOrderlyWorkspace meta (with_tag s.history name version)) (λ w q. record {
     stands = record { branch = q.stands.branch; base = q.stands.base; on_path = q.stands.on_path; pending = q.stands.pending };
     runs = q.runs;
   }) s.workspaces kept.workspaces;
@@ -319,7 +320,7 @@ first_kept meta s text is none = record {
   names = first_names;
   versions = λ v within. let is_zero : 0 ≡ v = omega (arith, within)
       in subst (λ k. RunsTo meta first_history k) is_zero (record { model = nothing; run = refl; spelled = tt });
-  workspaces = subst (AllByRecursion (IfThere (InOrder meta first_history))) (sym none) tt;
+  workspaces = subst (AllByRecursion (IfThere (IsOrderlyWorkspace meta first_history))) (sym none) tt;
 }
 
 init_kept : (s : State) (text : List ℕ) (r : Result Meta EcoreFault) → metamodel_of text ≡ r → is_ok r ≡ true → s.workspaces ≡ []
@@ -328,14 +329,14 @@ init_kept s text (Ok meta) is ok none = first_kept meta s text is none
 init_kept s text (Err e) is ok none = absurd cc
 
 -- ---- Tidy, Update and Merge
-tidied_in_order : (meta : Meta) (s : State) → Orderly meta s → (w : Workspace) → can_tidy meta (Some w) ≡ true → InOrder meta s.history w
-    → InOrder meta s.history (tidied meta w)
+tidied_in_order : (meta : Meta) (s : State) → Orderly meta s → (w : Workspace) → can_tidy meta (Some w) ≡ true → IsOrderlyWorkspace meta s.history w
+    → IsOrderlyWorkspace meta s.history (tidied meta w)
 tidied_in_order meta s kept w can q =
     in_order meta s.history (tidied meta w) w refl refl refl q.stands
     (tidied_led meta kept.metamodel.sound s.history kept.whole kept.versions w q (and_left (is_closed (Some w)) (not (is_tidy meta w.operations)) can)).runs_to
 
 updated_in_order : (meta : Meta) (s : State) → Orderly meta s → (letters : List ℕ) (w : Workspace) → can_update meta s.history letters (Some w) ≡ true
-    → InOrder meta s.history w → InOrder meta s.history (updated meta s.history letters w)
+    → IsOrderlyWorkspace meta s.history w → IsOrderlyWorkspace meta s.history (updated meta s.history letters w)
 updated_in_order meta s kept letters w can q =
     let h : History = s.history in
     let apart : Bool = not (nat_eq w.base (head h w.branch)) in
@@ -349,8 +350,8 @@ updated_in_order meta s kept letters w can q =
     }
 
 merged_in_order : (meta : Meta) (s : State) → Orderly meta s → (branch : ℕ) (letters : List ℕ) (w : Workspace)
-    → can_merge meta s.history branch letters (Some w) ≡ true → InOrder meta s.history w
-    → InOrder meta s.history (merged_with meta s.history (head s.history branch) letters w)
+    → can_merge meta s.history branch letters (Some w) ≡ true → IsOrderlyWorkspace meta s.history w
+    → IsOrderlyWorkspace meta s.history (merged_with meta s.history (head s.history branch) letters w)
 merged_in_order meta s kept branch letters w can q =
     let h : History = s.history in
     let other : ℕ = head h branch in
@@ -378,7 +379,7 @@ commit_by : (meta : Meta) (s : State) (k : ℕ) (signature : Option Signature) (
 commit_by meta s k signature message None there can kept = absurd cc
 commit_by meta s k signature message (Some w) there can kept =
     let first : (nat_eq w.base (head s.history w.branch) && is_closed (Some w)) ≡ true = and_left _ (has_local (Some w)) can in
-    commit_kept meta s kept signature message w (at_number (InOrder meta s.history) s k w there kept.workspaces)
+    commit_kept meta s kept signature message w (at_number (IsOrderlyWorkspace meta s.history) s k w there kept.workspaces)
     (eqb-true w.base (head s.history w.branch) (and_left _ (is_closed (Some w)) first))
     (and_right (nat_eq w.base (head s.history w.branch)) (is_closed (Some w)) first) k there
 
@@ -387,7 +388,7 @@ branch_by : (meta : Meta) (s : State) (k : ℕ) (name : List ℕ) (o : Option Wo
     → Orderly meta (with_new_branch k name o s)
 branch_by meta s k name None is new there closed kept = absurd cc
 branch_by meta s k name (Some w) is new there closed kept =
-    branch_kept meta s kept name is new w (at_number (InOrder meta s.history) s k w there kept.workspaces) k there
+    branch_kept meta s kept name is new w (at_number (IsOrderlyWorkspace meta s.history) s k w there kept.workspaces) k there
 
 -- an event that could be made keeps all of it
 pub event_kept : (meta : Meta) (s : State) (e : Event) → s.meta ≡ Some meta → IsTrue (playable_with s (Some meta) e) → IsEvent e → Orderly meta s
@@ -436,7 +437,8 @@ event_kept meta s (Merge k branch letters) begun could spelled kept =
     (changed_kept meta s (merged_with meta s.history (head s.history branch) letters) k kept
     (λ w at q. merged_in_order meta s kept branch letters w (found s k (λ o. can_merge meta s.history branch letters o ≡ true) could w at) q))
 event_kept meta s (Drop k) begun could spelled kept =
-    with_workspaces meta s (changed_by_number (λ o. None) s.workspaces k) kept (number_dropped (InOrder meta s.history) s.workspaces k kept.workspaces)
+    with_workspaces meta s (changed_by_number (λ o. None) s.workspaces k) kept
+    (number_dropped (IsOrderlyWorkspace meta s.history) s.workspaces k kept.workspaces)
 event_kept meta s (Evolve text) begun could spelled kept =
     subst (λ (m : Option Meta). Orderly (grown text meta) (record s { meta = option_map (grown text) m })) (sym begun)
     (order_stays meta (grown text meta) (grown_is meta text kept.metamodel could) s kept)

@@ -14,7 +14,7 @@ use Rattle.history_tree.specs.declared.found.Found.{Found}
 use Rattle.history_tree.specs.declared.found.FindFault.{FindFault}
 use Rattle.history_tree.specs.declared.version.Version.{Version}
 use Rattle.history_tree.specs.History.{History}
-use Rattle.history_tree.specs.States.{package_at}
+use Rattle.history_tree.specs.States.{package_of_version}
 use Rattle.history_tree.proofs.Paths.{parent_before}
 use Rattle.op_form.specs.Formed.{is_package}
 use Rattle.op_form.specs.Packages.{package_encoding}
@@ -23,8 +23,8 @@ use Rattle.script_lang.specs.declared.command.Spec.{Spec}
 use Rattle.script_lang.specs.declared.reply.Refusal.TheVariants as refusals
 use Rattle.plain_repository.specs.State.{State, Workspace, Composite, workspace_of, open_steps}
 use Rattle.plain_repository.specs.Answers.{refused, told}
-use Rattle.plain_repository.specs.Specs.{named}
-use Rattle.plain_repository.specs.Views.{changes_of, lines_of_open, package_of, decide_changes, decide_package}
+use Rattle.plain_repository.specs.Specs.{found_by_spec}
+use Rattle.plain_repository.specs.Views.{changes_in, lines_of_open, package_found, decide_changes, decide_package}
 use Rattle.plain_repository.specs.Orderly.{Orderly}
 use Rattle.plain_repository.specs.Repository.{decide_with}
 use Rattle.plain_repository.specs.Laws.{HasMetamodel, IsThere}
@@ -41,7 +41,7 @@ module _ (s : State) (old new : Meta) (has : HasMetamodel s old) (grew : Evolves
   open_same None typed = refl
   open_same (Some c) typed = λ i. (codes "open" ++ after_spaces (c.name ∷ [])) ∷ steps_shown old new grew c.steps typed i
 
-  changes_same : (ws : ℕ) (o : Option Workspace) → workspace_of s ws ≡ o → changes_of new o ≡ changes_of old o
+  changes_same : (ws : ℕ) (o : Option Workspace) → workspace_of s ws ≡ o → changes_in new o ≡ changes_in old o
   changes_same ws None there = refl
   changes_same ws (Some w) there =
       let t : IsThere s old w = record { in_state = has; ws = ws; there = there } in
@@ -50,7 +50,7 @@ module _ (s : State) (old new : Meta) (has : HasMetamodel s old) (grew : Evolves
       λ i. told (operations i ++ open_ones i) []
 
   -- the operations of a version are of the metamodel, and there are none where the version is not
-  typed_at : (v : ℕ) → IsTypedPackage old (package_at s.history.versions v)
+  typed_at : (v : ℕ) → IsTypedPackage old (package_of_version s.history.versions v)
   typed_at v = by (slice_get s.history.versions v) refl
     where
       by : (o : Option Version) → slice_get s.history.versions v ≡ o → IsTypedPackage old (option_map_or (λ (x : Version). x.«package») o [])
@@ -64,11 +64,11 @@ module _ (s : State) (old new : Meta) (has : HasMetamodel s old) (grew : Evolves
           within (x ∷ vs) zero at = omega arith
           within (x ∷ vs) (suc k) at = omega (arith, within vs k at)
 
-  package_same : (r : Result Found FindFault) → package_of new s.history r ≡ package_of old s.history r
+  package_same : (r : Result Found FindFault) → package_found new s.history r ≡ package_found old s.history r
   unfolding package_lines
   package_same (Err fault) = refl
   package_same (Ok found) =
-      let os = package_at s.history.versions found.version in
+      let os = package_of_version s.history.versions found.version in
       let lines = lines_shown old new grew os (typed_at found.version) in
       let bytes = codes "hex " ++ encode_lower (package_encoding os) in
       ap (λ (ls : List (List ℕ)). if is_package os then told (ls ++ bytes ∷ []) [] else refused refusals.TooLarge) lines
@@ -78,7 +78,7 @@ module _ (s : State) (old new : Meta) (has : HasMetamodel s old) (grew : Evolves
   unfolding decide_changes
   changes_stay after is stands block more ws =
       ap (λ (m : Option Meta). decide_with after m block (commands.Changes ws)) is
-      ∙ ap (changes_of new) (stands ws)
+      ∙ ap (changes_in new) (stands ws)
       ∙ changes_same ws (workspace_of s ws) refl
       ∙ ap (λ (m : Option Meta). decide_with s m more (commands.Changes ws)) (sym has.begun)
 
@@ -87,6 +87,6 @@ module _ (s : State) (old new : Meta) (has : HasMetamodel s old) (grew : Evolves
   unfolding decide_package
   packages_stay after is same block more spec =
       ap (λ (m : Option Meta). decide_with after m block (commands.Package spec)) is
-      ∙ ap (λ (g : History). package_of new g (named g spec)) same
-      ∙ package_same (named s.history spec)
+      ∙ ap (λ (g : History). package_found new g (found_by_spec g spec)) same
+      ∙ package_same (found_by_spec s.history spec)
       ∙ ap (λ (m : Option Meta). decide_with s m more (commands.Package spec)) (sym has.begun)

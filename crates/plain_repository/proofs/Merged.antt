@@ -29,12 +29,12 @@ use Rattle.merge_laws.proofs.Whole.{tidy_keeps_effect}
 use Rattle.merge_laws.specs.Merge.{merged}
 use Rattle.merge_laws.proofs.Merges.{update_gives_merged, merge_leads_to_merged}
 use Rattle.merge_laws.specs.Choices.{is_choice, are_choices, side_of}
-use Rattle.merge_laws.specs.Plans.{incoming}
+use Rattle.merge_laws.specs.Plans.{theirs_of_update}
 use Rattle.op_form.specs.Formed.{IsStep}
 use Rattle.plain_repository.specs.State.{Workspace, recorded_steps, model_of, is_closed}
 use Rattle.plain_repository.specs.Tidying.{tidied}
 use Rattle.plain_repository.specs.Merging.{update_buckets, updated, merge_theirs, merge_mine, merge_buckets, merge_tail, merged_with}
-use Rattle.plain_repository.specs.Orderly.{RunsTo, Runs, steps_to, InOrder}
+use Rattle.plain_repository.specs.Orderly.{RunsTo, Runs, steps_to, IsOrderlyWorkspace}
 use Rattle.plain_repository.proofs.Encodings.{and_left}
 use Rattle.plain_repository.proofs.Places.{both}
 use Rattle.plain_repository.proofs.Runs.{version_folded, version_model, workspace_folded, workspace_model, closed_steps_are}
@@ -109,7 +109,7 @@ module _ (meta : Meta) (sound : Sound meta) (h : History) (whole : IsWhole h) (r
         (ap (λ (l : List Step). fold meta (state_of meta h w.base) l) (closed_steps_are w w.composite refl closed) ∙ leads);
   }
 
-  module _ (w : Workspace) (r : InOrder meta h w) (closed : is_closed (Some w) ≡ true) where
+  module _ (w : Workspace) (r : IsOrderlyWorkspace meta h w) (closed : is_closed (Some w) ≡ true) where
     -- ---- tidying
     pub tidied_led : Led (tidied meta w) (model_of meta h w)
     tidied_led =
@@ -124,17 +124,17 @@ module _ (meta : Meta) (sound : Sound meta) (h : History) (whole : IsWhole h) (r
 
     pub update_leads : (letters : List ℕ) → are_choices letters (update_buckets meta h w) ≡ true
         → (n : models.State) × Leads meta (state_of meta h (head h w.branch)) (updated meta h letters w).operations n
-        × (merged meta (state_of meta h w.base) (incoming h w.branch w.base) w.operations (update_buckets meta h w) (map side_of letters) ≡ Some n)
+        × (merged meta (state_of meta h w.base) (theirs_of_update h w.branch w.base) w.operations (update_buckets meta h w) (map side_of letters) ≡ Some n)
     update_leads letters fit =
         update_gives_merged meta sound (state_of meta h w.base) (state_of meta h (head h w.branch)) (model_of meta h w) (version_good w.base r.stands.base)
-        (incoming h w.branch w.base) w.operations (after_leads w.base (head h w.branch) at_head r.stands.on_path) (local_leads w closed r.runs)
+        (theirs_of_update h w.branch w.base) w.operations (after_leads w.base (head h w.branch) at_head r.stands.on_path) (local_leads w closed r.runs)
         (map side_of letters) (sides_fit letters (update_buckets meta h w) fit)
 
     pub updated_led : (letters : List ℕ) (fit : are_choices letters (update_buckets meta h w) ≡ true)
         → Led (updated meta h letters w) (update_leads letters fit).0
     updated_led letters fit =
         led (updated meta h letters w) (update_leads letters fit).0 at_head closed (update_leads letters fit).1
-        (update_spelled (incoming h w.branch w.base) w.operations (update_buckets meta h w) (map side_of letters)
+        (update_spelled (theirs_of_update h w.branch w.base) w.operations (update_buckets meta h w) (map side_of letters)
         (after_spelled w.base (head h w.branch) at_head r.stands.on_path) (local_spelled w closed r.runs))
 
     -- ---- a merge

@@ -16,7 +16,7 @@ use Rattle.history_tree.proofs.Since.{nothing_after, on_path_low}
 use Rattle.history_tree.proofs.Steady.{path_ends}
 use Rattle.merge_laws.specs.Tidy.{is_tidy}
 use Rattle.merge_laws.specs.Choices.{are_choices}
-use Rattle.merge_laws.specs.Plans.{theirs_of}
+use Rattle.merge_laws.specs.Plans.{theirs_of_merge}
 use Rattle.op_form.specs.declared.event.Event.{Event}
 use Rattle.op_form.specs.declared.event.Event.TheVariants.{Tidy, Update, Merge}
 use Rattle.plain_repository.specs.State.{State, Workspace, workspace_of, model_of, changed_by_number, is_closed}
@@ -24,7 +24,7 @@ use Rattle.plain_repository.specs.Tidying.{tidied, can_tidy}
 use Rattle.plain_repository.specs.Merging.{update_buckets, updated, can_update, merge_theirs, merge_buckets, merged_with, is_other_branch, has_theirs}
 use Rattle.plain_repository.specs.Merging.{can_merge}
 use Rattle.plain_repository.specs.Events.{by_meta, play, playable, playable_with}
-use Rattle.plain_repository.specs.Orderly.{InOrder, Orderly}
+use Rattle.plain_repository.specs.Orderly.{IsOrderlyWorkspace, Orderly}
 use Rattle.plain_repository.specs.MergeLaws.{Changes, TidyingKeepsModels, UpdatesMerge, MergesMerge, MergesCount}
 use Rattle.plain_repository.proofs.Encodings.{and_left, and_right}
 use Rattle.plain_repository.proofs.Merged.{tidied_led, update_leads, updated_led, merge_leads, merged_led}
@@ -42,8 +42,8 @@ module _ (s : State) (meta : Meta) (ws : ℕ) (event : Event) (before after : Wo
   pub orderly_of : Orderly meta s
   orderly_of = kept s meta c.in_state
 
-  pub in_order_of : InOrder meta s.history before
-  in_order_of = at_number (InOrder meta s.history) s ws before c.there orderly_of.workspaces
+  pub in_order_of : IsOrderlyWorkspace meta s.history before
+  in_order_of = at_number (IsOrderlyWorkspace meta s.history) s ws before c.there orderly_of.workspaces
 
   pub could_with : IsTrue (playable_with s (Some meta) event)
   unfolding playable
@@ -82,7 +82,7 @@ unfolding play
 updates_merge s meta ws letters before after c =
     let h : History = s.history in
     let k : Orderly meta s = orderly_of s meta ws (Update ws letters) before after c in
-    let q : InOrder meta h before = in_order_of s meta ws (Update ws letters) before after c in
+    let q : IsOrderlyWorkspace meta h before = in_order_of s meta ws (Update ws letters) before after c in
     let can : can_update meta h letters (Some before) ≡ true =
     subst (λ (o : Option Workspace). can_update meta h letters o ≡ true) c.there (could_with s meta ws (Update ws letters) before after c) in
     let apart : Bool = not (nat_eq before.base (head h before.branch)) in
@@ -108,7 +108,7 @@ unfolding play
 merges_merge s meta ws branch letters before after c =
     let h : History = s.history in
     let k : Orderly meta s = orderly_of s meta ws (Merge ws branch letters) before after c in
-    let q : InOrder meta h before = in_order_of s meta ws (Merge ws branch letters) before after c in
+    let q : IsOrderlyWorkspace meta h before = in_order_of s meta ws (Merge ws branch letters) before after c in
     let can : can_merge meta h branch letters (Some before) ≡ true =
     subst (λ (o : Option Workspace). can_merge meta h branch letters o ≡ true) c.there
     (could_with s meta ws (Merge ws branch letters) before after c) in
@@ -126,7 +126,7 @@ merges_merge s meta ws branch letters before after c =
 
 -- a version that is pending is where its merge begins, so nothing comes after
 pending_settled : (h : History) → IsWhole h → (base : ℕ) (pending : List ℕ) (other : ℕ) → base < length h.versions → other < length h.versions
-    → is_among pending other ≡ true → theirs_of h base pending other ≡ []
+    → is_among pending other ≡ true → theirs_of_merge h base pending other ≡ []
 pending_settled h whole base pending other first second among =
     let start : ℕ = merge_base h base pending other in
     let at : IsMergeBase h base pending other start = base_last h whole base pending other first second in
@@ -140,7 +140,7 @@ unfolding play
 merges_count s meta ws branch letters before after c =
     let h : History = s.history in
     let k : Orderly meta s = orderly_of s meta ws (Merge ws branch letters) before after c in
-    let q : InOrder meta h before = in_order_of s meta ws (Merge ws branch letters) before after c in
+    let q : IsOrderlyWorkspace meta h before = in_order_of s meta ws (Merge ws branch letters) before after c in
     let other : ℕ = head h branch in
     subst (λ (w : Workspace). merge_theirs h w other ≡ []) (merged_after s meta ws branch letters before after c)
     (pending_settled h k.whole before.base (before.pending ++ other ∷ []) other q.stands.base (head_within h branch k.whole)

@@ -16,7 +16,7 @@ use Rattle.history_tree.proofs.Heads.{head_within, same_number}
 use Rattle.script_lang.specs.declared.command.Spec.{Spec}
 use Rattle.script_lang.specs.declared.command.Spec.TheVariants as specs
 use Rattle.plain_repository.specs.Checkouts.{can_check_out}
-use Rattle.plain_repository.specs.Specs.{named}
+use Rattle.plain_repository.specs.Specs.{found_by_spec}
 
 -- the version is of that branch, or is its head
 abbrev is_on : History → ℕ → ℕ → Bool
@@ -57,11 +57,12 @@ branch_found h whole name (Some branch) there found is =
     subst (λ (f : Found). can_check_out h f.version f.branch ≡ true) (same_found (record { version = head h branch; branch = branch }) found is)
     (within_both h (head h branch) branch (head_within h branch whole) within on)
 
-tag_found : (h : History) → IsWhole h → (o : Option Tag) (found : Found) → of_its_version h o ≡ Ok found → can_check_out h found.version found.branch ≡ true
-tag_found h whole None found is = absurd cc
-tag_found h whole (Some tag) found is = number_found h whole tag.version (slice_get h.versions tag.version) refl found is
+tag_is_found : (h : History) → IsWhole h → (o : Option Tag) (found : Found) → of_its_version h o ≡ Ok found → can_check_out h found.version found.branch ≡ true
+tag_is_found h whole None found is = absurd cc
+tag_is_found h whole (Some tag) found is = number_found h whole tag.version (slice_get h.versions tag.version) refl found is
 
-pub named_there : (h : History) → IsWhole h → (spec : Spec) (found : Found) → named h spec ≡ Ok found → can_check_out h found.version found.branch ≡ true
+pub named_there : (h : History) → IsWhole h → (spec : Spec) (found : Found) → found_by_spec h spec ≡ Ok found
+    → can_check_out h found.version found.branch ≡ true
 named_there h whole (specs.Number v) found is = number_found h whole v (slice_get h.versions v) refl found is
 named_there h whole (specs.Branch name) found is = branch_found h whole name (branch_named h name) refl found is
-named_there h whole (specs.Tag name) found is = tag_found h whole (tag_named h name) found is
+named_there h whole (specs.Tag name) found is = tag_is_found h whole (tag_named h name) found is

@@ -23,7 +23,7 @@ use Rattle.model_state.specs.declared.step.Place.TheVariants.{Root, Inside}
 use Rattle.model_state.specs.declared.step.Step.{Step}
 use Rattle.model_state.specs.declared.step.Step.TheVariants.{Put, Ins, Del, Shift, Link, Unlink, RerankRow, New, Gone, Move, RerankPlace}
 use Rattle.shown_lines.specs.Lines.{after_spaces, class_name, feature_name, lines_from, operation_line, operation_lines, optional, place_word}
-use Rattle.shown_lines.specs.Lines.{step_line, step_words, text_of, value_word}
+use Rattle.shown_lines.specs.Lines.{step_line, step_words, shown_text, value_word}
 use Rattle.shown_lines.specs.Typed.{AreTyped, IsClass, IsFeature, IsPlace, IsTyped, IsTypedPackage, IsValue, IsValueIfAny, is_value}
 
 there : {X : Type 0} (xs : List X) (k : ℕ) → k < length xs → (x : X) × (slice_get xs k ≡ Some x)
@@ -45,13 +45,13 @@ module _ (o n : Meta) (evolves : Evolves o n) where
   feature_same : (f : ℕ) → IsFeature o f → feature_name n f ≡ feature_name o f
   feature_same f within = let s : Same o n f = same f within in ap (λ (x : Option Feature). option_map_or (λ feature. feature.name) x []) s.is
 
-  text_same : (k : Kind) (v : Value) → is_value o k v ≡ true → text_of n k v ≡ text_of o k v
+  text_same : (k : Kind) (v : Value) → is_value o k v ≡ true → shown_text n k v ≡ shown_text o k v
   text_same (Attr s default) v h = ap compact_text (data_same o n evolves s v h)
   text_same (AttrMany s unique) v h = ap compact_text (data_same o n evolves s v h)
   text_same k v h = refl
 
   value_same : (f : ℕ) (v : Value) → IsFeature o f → IsValue o f v → value_word n f v ≡ value_word o f v
-  value_same f v within h = ap (λ (k : Kind). text_of n k v) (same_kind o n f (same f within)) ∙ text_same (kind_of o f) v h
+  value_same f v within h = ap (λ (k : Kind). shown_text n k v) (same_kind o n f (same f within)) ∙ text_same (kind_of o f) v h
 
   any_same : (f : ℕ) (v : Option Value) → IsFeature o f → IsValueIfAny o f v → optional (value_word n f) v ≡ optional (value_word o f) v
   any_same f None within h = refl

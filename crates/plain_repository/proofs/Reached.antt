@@ -19,7 +19,7 @@ use Rattle.plain_repository.specs.State.{State, Workspace, empty, recorded_steps
 use Rattle.plain_repository.specs.Laws.{StaysInOrder, AllIsInOrder, HasMetamodel, IsThere, OfModels, OfVersions, HasIds, ModelsAreDefined}
 use Rattle.plain_repository.specs.Laws.{VersionsAreDefined, MetamodelsHold, HistoriesAreWhole, WorkspacesStand, BranchesAreNamed, TagsAreNamed}
 use Rattle.plain_repository.specs.Laws.{TagNamesDiffer}
-use Rattle.plain_repository.specs.Orderly.{IsRun, RunsTo, Runs, steps_to, InOrder, Orderly, AllOrderly, IsOrderly}
+use Rattle.plain_repository.specs.Orderly.{IsRun, RunsTo, Runs, steps_to, IsOrderlyWorkspace, Orderly, AllOrderly, IsOrderly}
 use Rattle.plain_repository.proofs.Names.{first_found}
 use Rattle.plain_repository.proofs.Places.{at_number}
 use Rattle.plain_repository.proofs.Runs.{version_folded, version_model, workspace_folded, workspace_model}
@@ -34,8 +34,8 @@ stays_in_order s orderly e could = play_keeps s e could orderly
 pub kept : (s : State) (meta : Meta) → HasMetamodel s meta → Orderly meta s
 kept s meta has = subst (λ (m : Option Meta). AllOrderly m s) has.begun has.orderly
 
-pub in_order : (s : State) (meta : Meta) (w : Workspace) → IsThere s meta w → InOrder meta s.history w
-in_order s meta w t = at_number (InOrder meta s.history) s t.ws w t.there (kept s meta t.in_state).workspaces
+pub in_order : (s : State) (meta : Meta) (w : Workspace) → IsThere s meta w → IsOrderlyWorkspace meta s.history w
+in_order s meta w t = at_number (IsOrderlyWorkspace meta s.history) s t.ws w t.there (kept s meta t.in_state).workspaces
 
 -- ---- runs lead to good models of elements with ids
 run_good : (meta : Meta) → Sound meta → (steps : List _) (r : IsRun meta steps) → Good meta r.model

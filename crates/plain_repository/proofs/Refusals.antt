@@ -20,7 +20,7 @@ use Rattle.history_tree.specs.Found.{found_by_number, branch_named, has_tag}
 use Rattle.history_tree.specs.History.{History, head, path}
 use Rattle.history_tree.specs.MergeBase.{is_among}
 use Rattle.history_tree.specs.Since.{path_after}
-use Rattle.history_tree.specs.States.{package_at, state_of}
+use Rattle.history_tree.specs.States.{package_of_version, state_of}
 use Rattle.merge_laws.specs.Choices.{are_choices}
 use Rattle.merge_laws.specs.Pairs.{have_pair, first_interfering}
 use Rattle.merge_laws.specs.Tidy.{is_tidy}
@@ -39,7 +39,7 @@ use Rattle.commit_journal.specs.declared.fit.Fit.TheVariants as fits
 use Rattle.op_form.specs.declared.event.Event.{Event}
 use Rattle.op_form.specs.declared.event.Event.TheVariants.{Commit, Signed}
 use Rattle.op_reading.specs.declared.fault.FormFault.{FormFault}
-use Rattle.op_reading.specs.Packages.{package_at as package_form_at}
+use Rattle.op_reading.specs.Packages.{package_at}
 use Rattle.op_form.specs.Events.{event_encoding}
 use Rattle.op_reading.specs.Events.{whole_of}
 use Rattle.op_form.specs.Formed.{is_event, is_package}
@@ -48,20 +48,20 @@ use Rattle.script_lang.specs.declared.command.Command.TheVariants as commands
 use Rattle.script_lang.specs.Command.{command_of}
 use Rattle.plain_repository.specs.State.{State, Workspace, workspace_of, model_of, is_open, has_local, has_operations}
 use Rattle.plain_repository.specs.Answers.{Decision, accepted, most_events, by_fit, with_room}
-use Rattle.plain_repository.specs.Specs.{named}
+use Rattle.plain_repository.specs.Specs.{found_by_spec}
 use Rattle.plain_repository.specs.Metamodels.{with_metamodel, decide_init, extended, evolve_read, decide_evolve}
-use Rattle.plain_repository.specs.Checkouts.{checkout_of, decide_checkout, drop_of, decide_drop}
-use Rattle.plain_repository.specs.Commits.{is_new_branch, version_made, commit_of, decide_commit, signed_of, decide_signed, decide_upgrade, branch_of}
-use Rattle.plain_repository.specs.Commits.{decide_branch, tag_of, decide_tag}
+use Rattle.plain_repository.specs.Checkouts.{checkout_found, decide_checkout, drop_in, decide_drop}
+use Rattle.plain_repository.specs.Commits.{is_new_branch, version_made, commit_in, decide_commit, signed_in, decide_signed, decide_upgrade, branch_in}
+use Rattle.plain_repository.specs.Commits.{decide_branch, tag_found, decide_tag}
 use Rattle.plain_repository.specs.Edits.{takes, id_words, with_operation, edited, edit_in, decide_edit, imported, import_read, import_in, decide_import}
-use Rattle.plain_repository.specs.Composites.{begun, decide_begin, ended, decide_end}
-use Rattle.plain_repository.specs.Local.{can_discard, undone, decide_undo, discarded, decide_discard}
-use Rattle.plain_repository.specs.Tidying.{tidy_of, decide_tidy}
+use Rattle.plain_repository.specs.Composites.{begin_in, decide_begin, end_in, decide_end}
+use Rattle.plain_repository.specs.Local.{can_discard, undo_in, decide_undo, discard_in, decide_discard}
+use Rattle.plain_repository.specs.Tidying.{tidy_in, decide_tidy}
 use Rattle.plain_repository.specs.Applying.{with_operations, applied, apply_read, apply_in, decide_apply, bytes_of_lines, load_package, load_read}
 use Rattle.plain_repository.specs.Applying.{load_bytes, load_in, decide_load, taken_out, revert_found, revert_in, decide_revert}
 use Rattle.plain_repository.specs.Choices.{chosen}
 use Rattle.plain_repository.specs.Merging.{update_buckets, update_in, decide_update, has_theirs, merge_buckets, merge_named, merge_in, decide_merge}
-use Rattle.plain_repository.specs.Views.{changes_of, decide_changes, shown, decide_show, validated, decide_validate, text_of, decide_cat, package_of}
+use Rattle.plain_repository.specs.Views.{changes_in, decide_changes, show_in, decide_show, validate_in, decide_validate, cat_found, decide_cat, package_found}
 use Rattle.plain_repository.specs.Views.{decide_package, decide_log}
 use Rattle.plain_repository.specs.Repository.{block_text, decide_begun, decide_with, decide_command, decide_read, decide_line}
 use Rattle.plain_repository.specs.Laws.{NoneIfRefused, RefusalsMakeNone, is_validate, DataLinesAreApart}
@@ -128,11 +128,11 @@ module _ (s : State) where
   evolve_told text old (Err fault) = silent refl refl
   evolve_told text old (Ok next) = extended_told text old next (missing old next)
 
-  checkout_told : (meta : Meta) (found : Result Found FindFault) → Told false (checkout_of s meta found)
+  checkout_told : (meta : Meta) (found : Result Found FindFault) → Told false (checkout_found s meta found)
   checkout_told meta (Err fault) = silent refl refl
   checkout_told meta (Ok found) = room_for _ _ _ (text_apart meta (state_of meta s.history found.version))
 
-  drop_told : (ws : ℕ) (o : Option Workspace) → Told false (drop_of s ws o)
+  drop_told : (ws : ℕ) (o : Option Workspace) → Told false (drop_in s ws o)
   drop_told ws None = silent refl refl
   drop_told ws (Some w) = room _ _
 
@@ -141,19 +141,19 @@ module _ (s : State) where
       either (not (w.base == head s.history w.branch)) (silent refl refl)
       (either (is_open (Some w)) (silent refl refl) (either (has_local (Some w)) (room _ event) (silent refl refl)))
 
-  commit_told : (ws : ℕ) (message : List ℕ) (o : Option Workspace) → Told false (commit_of s ws message o)
+  commit_told : (ws : ℕ) (message : List ℕ) (o : Option Workspace) → Told false (commit_in s ws message o)
   commit_told ws message None = silent refl refl
   commit_told ws message (Some w) = either s.upgraded (silent refl refl) (version_told w (Commit ws message))
 
-  signed_told : (ws : ℕ) (author : List ℕ) (moment : ℕ) (message : List ℕ) (o : Option Workspace) → Told false (signed_of s ws author moment message o)
+  signed_told : (ws : ℕ) (author : List ℕ) (moment : ℕ) (message : List ℕ) (o : Option Workspace) → Told false (signed_in s ws author moment message o)
   signed_told ws author moment message None = silent refl refl
   signed_told ws author moment message (Some w) = either s.upgraded (version_told w (Signed ws author moment message)) (silent refl refl)
 
-  branch_told : (ws : ℕ) (name : List ℕ) (o : Option Workspace) → Told false (branch_of s ws name o)
+  branch_told : (ws : ℕ) (name : List ℕ) (o : Option Workspace) → Told false (branch_in s ws name o)
   branch_told ws name None = silent refl refl
   branch_told ws name (Some w) = either (is_open (Some w)) (silent refl refl) (either (is_new_branch s.history name) (room _ _) (silent refl refl))
 
-  tag_told : (name : List ℕ) (found : Result Found FindFault) → Told false (tag_of s name found)
+  tag_told : (name : List ℕ) (found : Result Found FindFault) → Told false (tag_found s name found)
   tag_told name (Err fault) = silent refl refl
   tag_told name (Ok found) = room _ _
 
@@ -182,23 +182,23 @@ module _ (s : State) where
   import_told meta ws None text = silent refl refl
   import_told meta ws (Some w) text = import_read_told meta ws w (doc_of meta text)
 
-  begin_told : (ws : ℕ) (name : List ℕ) (o : Option Workspace) → Told false (begun s ws name o)
+  begin_told : (ws : ℕ) (name : List ℕ) (o : Option Workspace) → Told false (begin_in s ws name o)
   begin_told ws name None = silent refl refl
   begin_told ws name (Some w) = either (is_open (Some w)) (silent refl refl) (room _ _)
 
-  end_told : (ws : ℕ) (o : Option Workspace) → Told false (ended s ws o)
+  end_told : (ws : ℕ) (o : Option Workspace) → Told false (end_in s ws o)
   end_told ws None = silent refl refl
   end_told ws (Some w) = either (is_open (Some w)) (room _ _) (silent refl refl)
 
-  undo_told : (ws : ℕ) (o : Option Workspace) → Told false (undone s ws o)
+  undo_told : (ws : ℕ) (o : Option Workspace) → Told false (undo_in s ws o)
   undo_told ws None = silent refl refl
   undo_told ws (Some w) = either (is_open (Some w)) (silent refl refl) (either (has_operations (Some w)) (room _ _) (silent refl refl))
 
-  discard_told : (ws : ℕ) (o : Option Workspace) → Told false (discarded s ws o)
+  discard_told : (ws : ℕ) (o : Option Workspace) → Told false (discard_in s ws o)
   discard_told ws None = silent refl refl
   discard_told ws (Some w) = either (can_discard (Some w)) (room _ _) (silent refl refl)
 
-  tidy_told : (meta : Meta) (ws : ℕ) (o : Option Workspace) → Told false (tidy_of s meta ws o)
+  tidy_told : (meta : Meta) (ws : ℕ) (o : Option Workspace) → Told false (tidy_in s meta ws o)
   tidy_told meta ws None = silent refl refl
   tidy_told meta ws (Some w) = either (is_open (Some w)) (silent refl refl) (either (is_tidy meta w.operations) (silent refl refl) (room _ _))
 
@@ -217,7 +217,7 @@ module _ (s : State) where
 
   apply_told : (meta : Meta) (ws : ℕ) (o : Option Workspace) (bytes : List ℕ) → Told false (apply_in s meta ws o bytes)
   apply_told meta ws None bytes = silent refl refl
-  apply_told meta ws (Some w) bytes = either (is_open (Some w)) (silent refl refl) (apply_read_told meta ws w (whole_of package_form_at bytes))
+  apply_told meta ws (Some w) bytes = either (is_open (Some w)) (silent refl refl) (apply_read_told meta ws w (whole_of package_at bytes))
 
   load_package_told : (meta : Meta) (ws : ℕ) (w : Workspace) (operations : List Operation) → Told false (load_package s meta ws w operations)
   load_package_told meta ws w operations =
@@ -229,7 +229,7 @@ module _ (s : State) where
 
   load_bytes_told : (meta : Meta) (ws : ℕ) (w : Workspace) (bytes : Option (List ℕ)) → Told false (load_bytes s meta ws w bytes)
   load_bytes_told meta ws w None = silent refl refl
-  load_bytes_told meta ws w (Some bytes) = load_read_told meta ws w (whole_of package_form_at bytes)
+  load_bytes_told meta ws w (Some bytes) = load_read_told meta ws w (whole_of package_at bytes)
 
   load_told : (meta : Meta) (ws : ℕ) (o : Option Workspace) (text : List ℕ) → Told false (load_in s meta ws o text)
   load_told meta ws None text = silent refl refl
@@ -243,7 +243,7 @@ module _ (s : State) where
   revert_found_told : (meta : Meta) (ws : ℕ) (w : Workspace) (found : Result Found FindFault) → Told false (revert_found s meta ws w found)
   revert_found_told meta ws w (Err fault) = silent refl refl
   revert_found_told meta ws w (Ok found) =
-      let operations = package_at s.history.versions found.version in
+      let operations = package_of_version s.history.versions found.version in
       either (is_among (path s.history w.base) found.version)
       (taken_out_told meta ws w operations (first_interfering meta s.history.versions operations (path_after s.history found.version w.base)))
       (silent refl refl)
@@ -272,26 +272,27 @@ module _ (s : State) where
   merge_told meta ws name choices (Some w) = either (is_open (Some w)) (silent refl refl) (merge_named_told meta ws w choices (branch_named s.history name))
 
   -- ---- what is shown
-  changes_told : (meta : Meta) (o : Option Workspace) → Told false (changes_of meta o)
+  changes_told : (meta : Meta) (o : Option Workspace) → Told false (changes_in meta o)
   changes_told meta None = silent refl refl
   changes_told meta (Some w) = shows refl (changes_apart meta w.operations w.composite)
 
-  shown_told : (meta : Meta) (h : History) (o : Option Workspace) → Told false (shown meta h o)
+  shown_told : (meta : Meta) (h : History) (o : Option Workspace) → Told false (show_in meta h o)
   shown_told meta h None = silent refl refl
   shown_told meta h (Some w) = shows refl (text_apart meta (model_of meta h w))
 
-  validated_told : (meta : Meta) (h : History) (o : Option Workspace) → Told true (validated meta h o)
+  validated_told : (meta : Meta) (h : History) (o : Option Workspace) → Told true (validate_in meta h o)
   validated_told meta h None = record { refused_none = record { none = λ refuses. refl }; apart = λ plain. absurd cc }
   validated_told meta h (Some w) = record { refused_none = record { none = λ refuses. refl }; apart = λ plain. absurd cc }
 
-  text_told : (meta : Meta) (h : History) (found : Result Found FindFault) → Told false (text_of meta h found)
+  text_told : (meta : Meta) (h : History) (found : Result Found FindFault) → Told false (cat_found meta h found)
   text_told meta h (Err fault) = silent refl refl
   text_told meta h (Ok found) = shows refl (text_apart meta (state_of meta h found.version))
 
-  package_told : (meta : Meta) (h : History) (found : Result Found FindFault) → Told false (package_of meta h found)
+  package_told : (meta : Meta) (h : History) (found : Result Found FindFault) → Told false (package_found meta h found)
   package_told meta h (Err fault) = silent refl refl
   package_told meta h (Ok found) =
-      either (is_package (package_at h.versions found.version)) (shows refl (package_apart meta (package_at h.versions found.version))) (silent refl refl)
+      either (is_package (package_of_version h.versions found.version))
+      (shows refl (package_apart meta (package_of_version h.versions found.version))) (silent refl refl)
 
   -- ---- each command
   command_told : (meta : Meta) (block : Option (List ℕ)) (command : Command) → Told (is_validate command) (decide_begun s meta block command)
@@ -300,7 +301,7 @@ module _ (s : State) where
       decide_changes decide_show decide_validate decide_cat decide_package decide_log
   command_told meta block commands.Init = silent refl refl
   command_told meta block commands.Evolve = evolve_told (block_text block) meta (metamodel_of (block_text block))
-  command_told meta block (commands.Checkout spec) = checkout_told meta (named s.history spec)
+  command_told meta block (commands.Checkout spec) = checkout_told meta (found_by_spec s.history spec)
   command_told meta block (commands.Edit ws edit) = edit_told meta ws (workspace_of s ws) edit
   command_told meta block (commands.Import ws) = import_told meta ws (workspace_of s ws) (block_text block)
   command_told meta block (commands.Load ws) = load_told meta ws (workspace_of s ws) (block_text block)
@@ -312,14 +313,14 @@ module _ (s : State) where
   command_told meta block (commands.Apply ws bytes) = apply_told meta ws (workspace_of s ws) bytes
   command_told meta block (commands.Changes ws) = changes_told meta (workspace_of s ws)
   command_told meta block (commands.Show ws) = shown_told meta s.history (workspace_of s ws)
-  command_told meta block (commands.Cat spec) = text_told meta s.history (named s.history spec)
+  command_told meta block (commands.Cat spec) = text_told meta s.history (found_by_spec s.history spec)
   command_told meta block (commands.Validate ws) = validated_told meta s.history (workspace_of s ws)
   command_told meta block (commands.Commit ws message) = commit_told ws (unwrap_or message []) (workspace_of s ws)
   command_told meta block (commands.Signed ws author moment message) = signed_told ws author moment (unwrap_or message []) (workspace_of s ws)
   command_told meta block (commands.Branch ws name) = branch_told ws name (workspace_of s ws)
-  command_told meta block (commands.Tag name spec) = either (has_tag s.history name) (silent refl refl) (tag_told name (named s.history spec))
+  command_told meta block (commands.Tag name spec) = either (has_tag s.history name) (silent refl refl) (tag_told name (found_by_spec s.history spec))
   command_told meta block commands.Log = shows refl (log_apart s.history)
-  command_told meta block (commands.Package spec) = package_told meta s.history (named s.history spec)
+  command_told meta block (commands.Package spec) = package_told meta s.history (found_by_spec s.history spec)
   command_told meta block (commands.Update ws choices) = update_told meta ws choices (workspace_of s ws)
   command_told meta block (commands.Merge ws branch choices) = merge_told meta ws branch choices (workspace_of s ws)
   command_told meta block (commands.Revert ws version) = revert_told meta ws (workspace_of s ws) version

@@ -20,7 +20,7 @@ use Rattle.history_tree.specs.History.{History, path}
 use Rattle.history_tree.specs.Found.{found_by_number, on_its_branch}
 use Rattle.history_tree.specs.MergeBase.{is_among}
 use Rattle.history_tree.specs.Since.{path_after, operations_after}
-use Rattle.history_tree.specs.States.{package_at, operations_of, operations_to, state_of}
+use Rattle.history_tree.specs.States.{package_of_version, operations_of, operations_to, state_of}
 use Rattle.history_tree.specs.Whole.{IsWhole}
 use Rattle.history_tree.proofs.Greatest.{of_among}
 use Rattle.history_tree.proofs.Bases.{Ends, ends}
@@ -46,7 +46,7 @@ use Rattle.plain_repository.specs.Applying.{with_operations, taken_out, revert_f
 use Rattle.plain_repository.specs.Edits.{added, with_more, takes, can_follow}
 use Rattle.plain_repository.specs.Events.{play}
 use Rattle.plain_repository.specs.Repository.{decide_with, decide_command}
-use Rattle.plain_repository.specs.Orderly.{RunsTo, Runs, InOrder, Orderly}
+use Rattle.plain_repository.specs.Orderly.{RunsTo, Runs, IsOrderlyWorkspace, Orderly}
 use Rattle.plain_repository.specs.MergeLaws.{Changes, path_without, RevertsTakeOut}
 use Rattle.plain_repository.proofs.Merged.{version_leads, local_leads}
 use Rattle.plain_repository.proofs.Recorded.{more_steps}
@@ -89,8 +89,8 @@ versions_apart : (meta : Meta) (vs : List Version) (os : List Operation) (us : L
     → NoPair meta os (operations_of vs us)
 versions_apart meta vs os [] none = none_with meta os
 versions_apart meta vs os (u ∷ us) none =
-    let c = not_found (have_pair meta os (package_at vs u)) u (first_interfering meta vs os us) none in
-    pairs_both meta os (package_at vs u) (operations_of vs us) (no_pair_of meta os (package_at vs u) c.0) (versions_apart meta vs os us c.1)
+    let c = not_found (have_pair meta os (package_of_version vs u)) u (first_interfering meta vs os us) none in
+    pairs_both meta os (package_of_version vs u) (operations_of vs us) (no_pair_of meta os (package_of_version vs u) c.0) (versions_apart meta vs os us c.1)
 
 -- ---- the path without a version
 keep_all : (v : ℕ) (us : List ℕ) → All (λ u. u ≢ v) us → filter (λ u. not (nat_eq u v)) us ≡ us
@@ -114,11 +114,11 @@ without_is h whole v last there on before is below =
 
 -- ---- the package is taken out
 module _ (meta : Meta) (sound : Sound meta) (h : History) (whole : IsWhole h) (runs : (v : ℕ) → v < length h.versions → RunsTo meta h v)
-    (w : Workspace) (r : InOrder meta h w) (closed : is_closed (Some w) ≡ true) (v : ℕ) (on : Contains (path h w.base) v)
-    (free : first_interfering meta h.versions (package_at h.versions v) (path_after h v w.base) ≡ None)
-    (apart : have_pair meta (package_at h.versions v) w.operations ≡ false) where
+    (w : Workspace) (r : IsOrderlyWorkspace meta h w) (closed : is_closed (Some w) ≡ true) (v : ℕ) (on : Contains (path h w.base) v)
+    (free : first_interfering meta h.versions (package_of_version h.versions v) (path_after h v w.base) ≡ None)
+    (apart : have_pair meta (package_of_version h.versions v) w.operations ≡ false) where
   abbrev taken : List Operation
-  taken = package_at h.versions v
+  taken = package_of_version h.versions v
 
   abbrev since : List Operation
   since = operations_after h v w.base
@@ -159,7 +159,7 @@ module _ (meta : Meta) (sound : Sound meta) (h : History) (whole : IsWhole h) (r
   -- the reversal leads from the working model to the model without the package
   pub record TakenOut : Type 0 where
     pub model : models.State
-    pub back : Leads meta (model_of meta h w) (rev_package (package_at h.versions v)) model
+    pub back : Leads meta (model_of meta h w) (rev_package (package_of_version h.versions v)) model
     pub left : Leads meta nothing (operations_of h.versions (path_without h v w.base) ++ w.operations) model
 
   pub taken_out_is : TakenOut
@@ -177,7 +177,8 @@ module _ (meta : Meta) (sound : Sound meta) (h : History) (whole : IsWhole h) (r
       by e = cc
 
   -- so the reversal can be recorded, and needs no test
-  pub revert_follows : (o : Operation) (os : List Operation) → rev_package (package_at h.versions v) ≡ o ∷ os → can_follow meta h (Some w) (o ∷ os) ≡ true
+  pub revert_follows : (o : Operation) (os : List Operation) → rev_package (package_of_version h.versions v) ≡ o ∷ os
+      → can_follow meta h (Some w) (o ∷ os) ≡ true
   revert_follows o os is =
       let leads : fold_package meta (model_of meta h w) (o ∷ os) ≡ Some taken_out_is.model =
       subst (λ (l : List Operation). fold_package meta (model_of meta h w) l ≡ Some taken_out_is.model) is taken_out_is.back in
@@ -218,13 +219,13 @@ room_event s lines words event made = by (nat_le most_events s.events) (is_event
 record Accepted (s : State) (meta : Meta) (ws v : ℕ) (w : Workspace) (event : Event) : Type 0 where
   shut : is_open (Some w) ≡ false
   on : is_among (path s.history w.base) v ≡ true
-  free : first_interfering meta s.history.versions (package_at s.history.versions v) (path_after s.history v w.base) ≡ None
-  apart : have_pair meta (package_at s.history.versions v) w.operations ≡ false
-  is : Edit ws (rev_package (package_at s.history.versions v)) ≡ event
+  free : first_interfering meta s.history.versions (package_of_version s.history.versions v) (path_after s.history v w.base) ≡ None
+  apart : have_pair meta (package_of_version s.history.versions v) w.operations ≡ false
+  is : Edit ws (rev_package (package_of_version s.history.versions v)) ≡ event
 
 module _ (s : State) (meta : Meta) (ws v : ℕ) (w : Workspace) (event : Event) where
   abbrev operations : List Operation
-  operations = package_at s.history.versions v
+  operations = package_of_version s.history.versions v
 
   abbrev found_first : Option ℕ
   found_first = first_interfering meta s.history.versions operations (path_after s.history v w.base)
@@ -286,11 +287,11 @@ pub reverts_take_out : RevertsTakeOut
 reverts_take_out s meta ws v block event before after decided c =
     let a : Accepted s meta ws v before event = accepted_so s meta ws v before event c.in_state.begun c.there block decided in
     let k : Orderly meta s = orderly_of s meta ws event before after c in
-    let q : InOrder meta s.history before = in_order_of s meta ws event before after c in
+    let q : IsOrderlyWorkspace meta s.history before = in_order_of s meta ws event before after c in
     let closed : is_closed (Some before) ≡ true = ap not a.shut in
     let out = taken_out_is meta k.metamodel.sound s.history k.whole k.versions before q closed v
     (of_among (path s.history before.base) v a.on) a.free a.apart in
     out.left
     ∙ ap Some (sym (subst (λ (e : Event). Changes s meta ws e before after → model_of meta (play s e).history after ≡ out.model) a.is
-    (λ (d : Changes s meta ws (Edit ws (rev_package (package_at s.history.versions v))) before after). edit_leads s meta ws
-    (rev_package (package_at s.history.versions v)) before after out.model d out.back) c))
+    (λ (d : Changes s meta ws (Edit ws (rev_package (package_of_version s.history.versions v))) before after). edit_leads s meta ws
+    (rev_package (package_of_version s.history.versions v)) before after out.model d out.back) c))

@@ -14,7 +14,7 @@ use Rattle.history_tree.specs.History.{History}
 use Rattle.script_lang.specs.declared.command.Command.TheVariants as commands
 use Rattle.plain_repository.specs.State.{State, Workspace, Composite as Open, workspace_of, open_steps, model_of}
 use Rattle.plain_repository.specs.Answers.{Decision, told}
-use Rattle.plain_repository.specs.Views.{lines_of_open, changes_of, decide_changes, shown, decide_show, validated, decide_validate}
+use Rattle.plain_repository.specs.Views.{lines_of_open, changes_in, decide_changes, show_in, decide_show, validate_in, decide_validate}
 use Rattle.plain_repository.specs.Events.{play, playable, playable_with}
 use Rattle.plain_repository.specs.Repository.{decide_with, decide_command}
 use Rattle.plain_repository.specs.Laws.{IsThere, shown_as, LookAlike, ShownByOwn, ShownApart}
@@ -35,7 +35,7 @@ module _ (s : State) (meta : Meta) (begun : s.meta ≡ Some meta) (block : Optio
       ap (λ (m : Option Meta).
       decide_with s m block (commands.Show ws) ∷ decide_with s m block (commands.Changes ws) ∷ decide_with s m block (commands.Validate ws) ∷ [])
       begun
-      ∙ ap (λ (o : Option Workspace). shown meta s.history o ∷ changes_of meta o ∷ validated meta s.history o ∷ []) there
+      ∙ ap (λ (o : Option Workspace). show_in meta s.history o ∷ changes_in meta o ∷ validate_in meta s.history o ∷ []) there
 
 -- models of the same steps from the same state
 pub alike_models : (meta : Meta) (h g : History) (w v : Workspace) → LookAlike meta h g w v → model_of meta h w ≡ model_of meta g v

@@ -23,8 +23,8 @@ use Rattle.script_lang.specs.declared.command.Command.TheVariants as commands
 use Rattle.plain_repository.specs.State.{State, Workspace, workspace_of, model_of}
 use Rattle.plain_repository.specs.Answers.{told}
 use Rattle.plain_repository.specs.Metamodels.{grown}
-use Rattle.plain_repository.specs.Specs.{named}
-use Rattle.plain_repository.specs.Views.{shown, text_of, decide_show, decide_cat}
+use Rattle.plain_repository.specs.Specs.{found_by_spec}
+use Rattle.plain_repository.specs.Views.{show_in, cat_found, decide_show, decide_cat}
 use Rattle.plain_repository.specs.Events.{meta_after, play, playable}
 use Rattle.plain_repository.specs.Repository.{decide_with, decide_command}
 use Rattle.plain_repository.specs.Laws.{HasMetamodel, IsThere, TextsStay, MetamodelsGrow}
@@ -55,7 +55,7 @@ module _ (s : State) (old new : Meta) (has : HasMetamodel s old) (grew : Evolves
       let t : IsThere s old w = record { in_state = has; ws = ws; there = there } in
       ap (text new) (model_stays old new grew h w (in_order s old w t).runs) ∙ growth_keeps_text old new grew (model_of old h w) (models_are_good s old w t)
 
-  shown_same : (ws : ℕ) (o : Option Workspace) → workspace_of s ws ≡ o → shown new h o ≡ shown old h o
+  shown_same : (ws : ℕ) (o : Option Workspace) → workspace_of s ws ≡ o → show_in new h o ≡ show_in old h o
   shown_same ws None there = refl
   shown_same ws (Some w) there = ap (λ (t : List ℕ). told (t ∷ []) []) (model_text ws w there)
 
@@ -75,7 +75,7 @@ module _ (s : State) (old new : Meta) (has : HasMetamodel s old) (grew : Evolves
           let past = ltb-false v (length h.versions) is in
           ap (text new) (empty new past) ∙ growth_keeps_text old new grew nothing (starts_good old) ∙ ap (text old) (sym (empty old past))
 
-  text_same : (r : Result Found FindFault) → text_of new h r ≡ text_of old h r
+  text_same : (r : Result Found FindFault) → cat_found new h r ≡ cat_found old h r
   text_same (Err fault) = refl
   text_same (Ok found) = ap (λ (t : List ℕ). told (t ∷ []) []) (version_text found.version)
 
@@ -85,7 +85,7 @@ module _ (s : State) (old new : Meta) (has : HasMetamodel s old) (grew : Evolves
   unfolding decide_show
   shows after is same stands block more ws =
       ap (λ (m : Option Meta). decide_with after m block (commands.Show ws)) is
-      ∙ (λ i. shown new (same i) (stands ws i))
+      ∙ (λ i. show_in new (same i) (stands ws i))
       ∙ shown_same ws (workspace_of s ws) refl
       ∙ ap (λ (m : Option Meta). decide_with s m more (commands.Show ws)) (sym has.begun)
 
@@ -94,8 +94,8 @@ module _ (s : State) (old new : Meta) (has : HasMetamodel s old) (grew : Evolves
   unfolding decide_cat
   cats after is same block more spec =
       ap (λ (m : Option Meta). decide_with after m block (commands.Cat spec)) is
-      ∙ ap (λ (g : History). text_of new g (named g spec)) same
-      ∙ text_same (named h spec)
+      ∙ ap (λ (g : History). cat_found new g (found_by_spec g spec)) same
+      ∙ text_same (found_by_spec h spec)
       ∙ ap (λ (m : Option Meta). decide_with s m more (commands.Cat spec)) (sym has.begun)
 
 same_workspaces : (s : State) (text : List ℕ) (ws : ℕ) → workspace_of (play s (Evolve text)) ws ≡ workspace_of s ws

@@ -13,7 +13,7 @@ use Rattle.model_state.specs.declared.step.Step.{Step}
 use Rattle.model_state.specs.declared.operation.Operation.{Operation}
 use Rattle.model_laws.proofs.Start.{starts_good}
 use Rattle.model_laws.proofs.Runs.{steps_keep_good}
-use Rattle.history_tree.specs.States.{operations_of, package_at}
+use Rattle.history_tree.specs.States.{operations_of, package_of_version}
 use Rattle.history_tree.specs.Laws.{path_of_parent}
 use Rattle.history_tree.specs.Whole.{ComesBefore}
 use Rattle.history_tree.specs.declared.version.Version.{Version}
@@ -68,7 +68,7 @@ version_typed s meta v version sound orderly begun at before below =
     let operations = operations_of h.versions (path_of_parent h version.parent) in
     let runs = (kept s meta (record { orderly = orderly; begun = begun })).versions v below in
     let of_version = λ (o : Option Version). option_map_or (λ (x : Version). x.«package») o [] in
-    let own : package_at h.versions v ++ [] ≡ version.«package» = append-nil (package_at h.versions v) ∙ ap of_version at in
+    let own : package_of_version h.versions v ++ [] ≡ version.«package» = append-nil (package_of_version h.versions v) ∙ ap of_version at in
     let split : steps_to h v ≡ steps_all operations ++ steps_all version.«package» =
     ap (λ (vs : List ℕ). steps_all (operations_of h.versions vs)) (path_by_parent h v version at before)
     ∙ ap steps_all (operations_append h.versions (path_of_parent h version.parent) (v ∷ []))

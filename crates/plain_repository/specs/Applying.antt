@@ -14,12 +14,12 @@ use Rattle.history_tree.specs.History.{path}
 use Rattle.history_tree.specs.Found.{found_by_number}
 use Rattle.history_tree.specs.MergeBase.{is_among}
 use Rattle.history_tree.specs.Since.{path_after}
-use Rattle.history_tree.specs.States.{package_at}
+use Rattle.history_tree.specs.States.{package_of_version}
 use Rattle.merge_laws.specs.Pairs.{have_pair, first_interfering}
 use Rattle.op_form.specs.declared.event.Event.TheVariants as events
 use Rattle.op_reading.specs.declared.fault.FormFault.{FormFault}
 use Rattle.op_reading.specs.declared.fault.FormFault.TheVariants as forms
-use Rattle.op_reading.specs.Packages.{package_at as package_form_at}
+use Rattle.op_reading.specs.Packages.{package_at}
 use Rattle.op_reading.specs.Events.{whole_of}
 use Rattle.script_lang.specs.Command.{if_decoded}
 use Rattle.script_lang.specs.declared.reply.Refusal.{Refusal}
@@ -53,7 +53,7 @@ apply_read s meta ws w (Ok operations) = applied s ws operations (first_stop met
 -- the same, where no composite is open
 abbrev pub apply_in : State → Meta → ℕ → Option Workspace → List ℕ → Decision
 apply_in s meta ws None bytes = refused refusals.NoWorkspace
-apply_in s meta ws (Some w) bytes = if is_open (Some w) then refused refusals.CompositeOpen else apply_read s meta ws w (whole_of package_form_at bytes)
+apply_in s meta ws (Some w) bytes = if is_open (Some w) then refused refusals.CompositeOpen else apply_read s meta ws w (whole_of package_at bytes)
 
 -- `apply WS HEX`: the operations of a package, given by its bytes, are recorded
 unfoldable pub decide_apply : State → Meta → ℕ → List ℕ → Decision
@@ -79,7 +79,7 @@ load_read s meta ws w (Ok operations) = load_package s meta ws w operations
 -- the same, where the block spells bytes
 abbrev pub load_bytes : State → Meta → ℕ → Workspace → Option (List ℕ) → Decision
 load_bytes s meta ws w None = refused (refusals.NotForm 0)
-load_bytes s meta ws w (Some bytes) = load_read s meta ws w (whole_of package_form_at bytes)
+load_bytes s meta ws w (Some bytes) = load_read s meta ws w (whole_of package_at bytes)
 
 -- the same, by the workspace
 abbrev pub load_in : State → Meta → ℕ → Option Workspace → List ℕ → Decision
@@ -102,7 +102,7 @@ taken_out s meta ws w operations None =
 abbrev pub revert_found : State → Meta → ℕ → Workspace → Result Found FindFault → Decision
 revert_found s meta ws w (Err fault) = refused (unknown fault)
 revert_found s meta ws w (Ok found) =
-    let operations = package_at s.history.versions found.version in
+    let operations = package_of_version s.history.versions found.version in
     if is_among (path s.history w.base) found.version then taken_out s meta ws w operations
     (first_interfering meta s.history.versions operations (path_after s.history found.version w.base))
     else refused refusals.NotOnPath

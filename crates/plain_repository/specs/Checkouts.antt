@@ -15,11 +15,11 @@ use Rattle.script_lang.specs.declared.command.Spec.{Spec}
 use Rattle.script_lang.specs.declared.reply.Refusal.TheVariants as refusals
 use Rattle.plain_repository.specs.State.{State, Workspace, untouched, workspace_of, changed_by_number}
 use Rattle.plain_repository.specs.Answers.{Decision, refused, with_room}
-use Rattle.plain_repository.specs.Specs.{named, unknown}
+use Rattle.plain_repository.specs.Specs.{found_by_spec, unknown}
 
 -- a new workspace, numbered one above those made so far
-abbrev pub checked_out : ℕ → ℕ → State → State
-checked_out version branch s = record s { workspaces = s.workspaces ++ Some (untouched branch version) ∷ [] }
+abbrev pub with_checkout : ℕ → ℕ → State → State
+with_checkout version branch s = record s { workspaces = s.workspaces ++ Some (untouched branch version) ∷ [] }
 
 -- the version and the branch are there, and the version is of that branch, or is its head
 abbrev pub can_check_out : History → ℕ → ℕ → Bool
@@ -28,28 +28,28 @@ can_check_out h version branch =
     && (option_map_or (λ v. v.branch == branch) (slice_get h.versions version) false || (head h branch == version))
 
 -- the workspace is dropped, and its number is never used again
-abbrev pub dropped : ℕ → State → State
-dropped ws s = record s { workspaces = changed_by_number (λ workspace. None) s.workspaces ws }
+abbrev pub with_drop : ℕ → State → State
+with_drop ws s = record s { workspaces = changed_by_number (λ workspace. None) s.workspaces ws }
 
 -- the number of the next workspace, the version, and the branch's name
 abbrev pub checkout_words : State → Found → List ℕ
 checkout_words s found = join_with_byte 32 (decimal (length s.workspaces + 1) ∷ decimal found.version ∷ branch_name s.history found.branch ∷ [])
 
 -- a new workspace, where a version was found
-abbrev pub checkout_of : State → Meta → Result Found FindFault → Decision
-checkout_of s meta (Err fault) = refused (unknown fault)
-checkout_of s meta (Ok found) =
+abbrev pub checkout_found : State → Meta → Result Found FindFault → Decision
+checkout_found s meta (Err fault) = refused (unknown fault)
+checkout_found s meta (Ok found) =
     with_room s (text meta (state_of meta s.history found.version) ∷ []) (checkout_words s found) (events.Checkout found.version found.branch)
 
 -- `checkout SPEC`: a workspace at the version, whose text is printed
 unfoldable pub decide_checkout : State → Meta → Spec → Decision
-decide_checkout s meta spec = checkout_of s meta (named s.history spec)
+decide_checkout s meta spec = checkout_found s meta (found_by_spec s.history spec)
 
 -- the workspace is dropped, where it is there
-abbrev pub drop_of : State → ℕ → Option Workspace → Decision
-drop_of s ws None = refused refusals.NoWorkspace
-drop_of s ws (Some workspace) = with_room s [] [] (events.Drop ws)
+abbrev pub drop_in : State → ℕ → Option Workspace → Decision
+drop_in s ws None = refused refusals.NoWorkspace
+drop_in s ws (Some workspace) = with_room s [] [] (events.Drop ws)
 
 -- `drop WS`: the workspace is dropped
 unfoldable pub decide_drop : State → ℕ → Decision
-decide_drop s ws = drop_of s ws (workspace_of s ws)
+decide_drop s ws = drop_in s ws (workspace_of s ws)

@@ -16,7 +16,7 @@ use Rattle.script_lang.specs.declared.command.Spec.{Spec}
 use Rattle.script_lang.specs.declared.reply.Refusal.TheVariants as refusals
 use Rattle.plain_repository.specs.State.{State, Workspace, workspace_of, with_changed, is_closed, is_open, has_local}
 use Rattle.plain_repository.specs.Answers.{Decision, refused, told, with_room}
-use Rattle.plain_repository.specs.Specs.{named, unknown}
+use Rattle.plain_repository.specs.Specs.{found_by_spec, unknown}
 
 -- ---- Commit and Signed
 -- the version that a workspace's operations make
@@ -60,22 +60,22 @@ version_made s w event =
     else refused refusals.NothingLocal
 
 -- the same, where the store is not upgraded
-abbrev pub commit_of : State → ℕ → List ℕ → Option Workspace → Decision
-commit_of s ws message None = refused refusals.NoWorkspace
-commit_of s ws message (Some w) = if s.upgraded then refused refusals.Unsigned else version_made s w (events.Commit ws message)
+abbrev pub commit_in : State → ℕ → List ℕ → Option Workspace → Decision
+commit_in s ws message None = refused refusals.NoWorkspace
+commit_in s ws message (Some w) = if s.upgraded then refused refusals.Unsigned else version_made s w (events.Commit ws message)
 
 -- the same, where the store is upgraded
-abbrev pub signed_of : State → ℕ → List ℕ → ℕ → List ℕ → Option Workspace → Decision
-signed_of s ws author moment message None = refused refusals.NoWorkspace
-signed_of s ws author moment message (Some w) = if s.upgraded then version_made s w (events.Signed ws author moment message) else refused refusals.OldForm
+abbrev pub signed_in : State → ℕ → List ℕ → ℕ → List ℕ → Option Workspace → Decision
+signed_in s ws author moment message None = refused refusals.NoWorkspace
+signed_in s ws author moment message (Some w) = if s.upgraded then version_made s w (events.Signed ws author moment message) else refused refusals.OldForm
 
 -- `commit WS [MESSAGE]`: the local operations are a new version
 unfoldable pub decide_commit : State → ℕ → Option (List ℕ) → Decision
-decide_commit s ws message = commit_of s ws (unwrap_or message []) (workspace_of s ws)
+decide_commit s ws message = commit_in s ws (unwrap_or message []) (workspace_of s ws)
 
 -- `signed WS AUTHOR MOMENT [MESSAGE]`: the same, with author and moment
 unfoldable pub decide_signed : State → ℕ → List ℕ → ℕ → Option (List ℕ) → Decision
-decide_signed s ws author moment message = signed_of s ws author moment (unwrap_or message []) (workspace_of s ws)
+decide_signed s ws author moment message = signed_in s ws author moment (unwrap_or message []) (workspace_of s ws)
 
 -- ---- Upgrade
 -- the store is upgraded
@@ -101,16 +101,16 @@ abbrev pub is_new_branch : History → List ℕ → Bool
 is_new_branch h name = not (is_some (branch_named h name))
 
 -- a branch at the base, where no composite is open and the name is new
-abbrev pub branch_of : State → ℕ → List ℕ → Option Workspace → Decision
-branch_of s ws name None = refused refusals.NoWorkspace
-branch_of s ws name (Some w) =
+abbrev pub branch_in : State → ℕ → List ℕ → Option Workspace → Decision
+branch_in s ws name None = refused refusals.NoWorkspace
+branch_in s ws name (Some w) =
     if is_open (Some w) then refused refusals.CompositeOpen
     else if is_new_branch s.history name then with_room s [] [] (events.Branch ws name)
     else refused refusals.BranchExists
 
 -- `branch WS NAME`: a branch that starts at the base, and the workspace is on it
 unfoldable pub decide_branch : State → ℕ → List ℕ → Decision
-decide_branch s ws name = branch_of s ws name (workspace_of s ws)
+decide_branch s ws name = branch_in s ws name (workspace_of s ws)
 
 -- ---- Tag
 -- the history has the tag more
@@ -122,10 +122,10 @@ abbrev pub can_tag : History → List ℕ → ℕ → Bool
 can_tag h name version = is_name name && not (has_tag h name) && nat_lt version (length h.versions)
 
 -- a tag of the version that was found
-abbrev pub tag_of : State → List ℕ → Result Found FindFault → Decision
-tag_of s name (Err fault) = refused (unknown fault)
-tag_of s name (Ok found) = with_room s [] [] (events.Tag name found.version)
+abbrev pub tag_found : State → List ℕ → Result Found FindFault → Decision
+tag_found s name (Err fault) = refused (unknown fault)
+tag_found s name (Ok found) = with_room s [] [] (events.Tag name found.version)
 
 -- `tag NAME SPEC`: a tag of the version, where the name is new
 unfoldable pub decide_tag : State → List ℕ → Spec → Decision
-decide_tag s name spec = if has_tag s.history name then refused refusals.TagExists else tag_of s name (named s.history spec)
+decide_tag s name spec = if has_tag s.history name then refused refusals.TagExists else tag_found s name (found_by_spec s.history spec)

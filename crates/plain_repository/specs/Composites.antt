@@ -32,19 +32,19 @@ abbrev pub with_closed : Workspace → Workspace
 with_closed w = record w { operations = w.operations ++ operation_of_open w.composite; composite = None }
 
 -- a composite is open, where none was
-abbrev pub begun : State → ℕ → List ℕ → Option Workspace → Decision
-begun s ws name None = refused refusals.NoWorkspace
-begun s ws name (Some w) = if is_open (Some w) then refused refusals.CompositeOpen else with_room s [] [] (events.Begin ws name)
+abbrev pub begin_in : State → ℕ → List ℕ → Option Workspace → Decision
+begin_in s ws name None = refused refusals.NoWorkspace
+begin_in s ws name (Some w) = if is_open (Some w) then refused refusals.CompositeOpen else with_room s [] [] (events.Begin ws name)
 
 -- `begin WS NAME`: a composite is open
 unfoldable pub decide_begin : State → ℕ → List ℕ → Decision
-decide_begin s ws name = begun s ws name (workspace_of s ws)
+decide_begin s ws name = begin_in s ws name (workspace_of s ws)
 
 -- the composite is closed, where one was open
-abbrev pub ended : State → ℕ → Option Workspace → Decision
-ended s ws None = refused refusals.NoWorkspace
-ended s ws (Some w) = if is_open (Some w) then with_room s [] [] (events.End ws) else refused refusals.NoComposite
+abbrev pub end_in : State → ℕ → Option Workspace → Decision
+end_in s ws None = refused refusals.NoWorkspace
+end_in s ws (Some w) = if is_open (Some w) then with_room s [] [] (events.End ws) else refused refusals.NoComposite
 
 -- `end WS`: the composite is closed
 unfoldable pub decide_end : State → ℕ → Decision
-decide_end s ws = ended s ws (workspace_of s ws)
+decide_end s ws = end_in s ws (workspace_of s ws)

@@ -13,7 +13,7 @@ use Rattle.edits.specs.Recording.{recorded}
 use Rattle.model_documents.specs.declared.doc.DocRow.{DocRow}
 use Rattle.model_documents.specs.declared.fault.ModelFault.{ModelFault}
 use Rattle.model_documents.specs.Document.{doc_of}
-use Rattle.model_documents.specs.Faults.{fault_number}
+use Rattle.model_documents.specs.Faults.{model_fault_number}
 use Rattle.import_laws.specs.Import.{recorded_import}
 use Rattle.op_form.specs.declared.event.Event.TheVariants as events
 use Rattle.script_lang.specs.declared.reply.Refusal.{Refusal}
@@ -88,7 +88,7 @@ imported s ws rows (Ok operation) = with_operation s ws (decimal (length rows)) 
 
 -- the same, by what its block reads as
 abbrev pub import_read : State → Meta → ℕ → Workspace → Result (List DocRow) ModelFault → Decision
-import_read s meta ws w (Err fault) = refused (refusals.BadModel (fault_number fault))
+import_read s meta ws w (Err fault) = refused (refusals.BadModel (model_fault_number fault))
 import_read s meta ws w (Ok rows) = imported s ws rows (recorded_import meta (model_of meta s.history w) ws rows)
 
 -- the same, by the workspace

@@ -15,7 +15,7 @@ use Rattle.script_lang.specs.declared.command.Spec.TheVariants as specs
 use Rattle.plain_repository.specs.State.{State, Composite, Workspace, workspace_of, model_of}
 use Rattle.history_tree.specs.declared.version.Signature.{Signature}
 use Rattle.plain_repository.specs.Commits.{version_event}
-use Rattle.plain_repository.specs.Specs.{named}
+use Rattle.plain_repository.specs.Specs.{found_by_spec}
 use Rattle.plain_repository.specs.Events.{play, playable}
 use Rattle.plain_repository.specs.Laws.{HasMetamodel}
 
@@ -41,7 +41,7 @@ KeepsModels event_of = (s : State) (meta : Meta) (ws : ℕ) (workspace : Workspa
 pub record IsBegun (s : State) (meta : Meta) : Type 0 where
   pub begun : s.meta ≡ Some meta
   pub state : state_of meta s.history 0 ≡ nothing
-  pub trunk : named s.history (specs.Branch (codes "trunk")) ≡ Ok (record { version = 0; branch = 0 })
+  pub trunk : found_by_spec s.history (specs.Branch (codes "trunk")) ≡ Ok (record { version = 0; branch = 0 })
 
 -- so does each Init of a text that reads as a metamodel
 abbrev pub InitsBegin : Type 0
@@ -107,4 +107,4 @@ BranchesStartAtBases = (s : State) (meta : Meta) (ws : ℕ) (name : List ℕ) (w
 -- a new tag's name, after `@`, names what the version's number names
 abbrev pub TagsNameVersions : Type 0
 TagsNameVersions = (s : State) (meta : Meta) → HasMetamodel s meta → (name : List ℕ) (version : ℕ) → IsTrue (playable s (Tag name version))
-    → named (play s (Tag name version)).history (specs.Tag name) ≡ named s.history (specs.Number version)
+    → found_by_spec (play s (Tag name version)).history (specs.Tag name) ≡ found_by_spec s.history (specs.Number version)

@@ -12,7 +12,7 @@ use Rattle.op_form.specs.Events.{event_encoding}
 use Rattle.plain_repository.specs.State.{State, Workspace, workspace_of, with_changed, is_open, is_closed}
 use Rattle.plain_repository.specs.Answers.{most_events, fits_record}
 use Rattle.plain_repository.specs.Metamodels.{initialized, is_metamodel, grown, with_grown, can_evolve}
-use Rattle.plain_repository.specs.Checkouts.{checked_out, can_check_out, dropped}
+use Rattle.plain_repository.specs.Checkouts.{with_checkout, can_check_out, with_drop}
 use Rattle.plain_repository.specs.Commits.{with_commit, can_commit, with_upgrade, with_new_branch, is_new_branch, with_new_tag, can_tag}
 use Rattle.plain_repository.specs.Edits.{with_more, can_follow}
 use Rattle.plain_repository.specs.Composites.{with_open, can_begin, with_closed}
@@ -28,7 +28,7 @@ by_meta (Some meta) change w = change meta w
 -- what an event changes beside the numbers that every event raises
 abbrev pub effect : State → Event → State
 effect s (Init text) = initialized text s
-effect s (Checkout version branch) = checked_out version branch s
+effect s (Checkout version branch) = with_checkout version branch s
 effect s (Edit ws operations) = with_changed (with_more operations) ws s
 effect s (Begin ws name) = with_changed (with_open name) ws s
 effect s (End ws) = with_changed with_closed ws s
@@ -40,7 +40,7 @@ effect s (Branch ws name) = with_new_branch ws name (workspace_of s ws) s
 effect s (Tag name version) = with_new_tag name version s
 effect s (Update ws letters) = with_changed (by_meta s.meta (λ meta. updated meta s.history letters)) ws s
 effect s (Merge ws branch letters) = with_changed (by_meta s.meta (λ meta. merged_with meta s.history (head s.history branch) letters)) ws s
-effect s (Drop ws) = dropped ws s
+effect s (Drop ws) = with_drop ws s
 effect s (Evolve text) = with_grown text s
 effect s Upgrade = with_upgrade s
 effect s (Signed ws author moment message) = with_commit ws (Some (record { author = author; moment = moment })) message (workspace_of s ws) s

@@ -33,7 +33,7 @@ use Rattle.script_lang.specs.declared.reply.Last.{Last}
 use Rattle.script_lang.specs.declared.reply.Last.TheVariants as last
 use Rattle.script_lang.specs.Reply.{last_line}
 use Rattle.script_lang.specs.Spelling.{IsCommand}
-use Rattle.script_lang.specs.Words.{is_word}
+use Rattle.finite_maps.specs.Equal.{text_eq}
 use Rattle.plain_repository.specs.State.{State, Workspace, empty, workspace_of, folded, model_of}
 use Rattle.plain_repository.specs.Orderly.{IsOrderly, StandsInHistory}
 use Rattle.plain_repository.specs.Answers.{Decision, fits_record, is_refusal, most_events}
@@ -109,14 +109,14 @@ abbrev pub WorkspacesStand : Type 0
 WorkspacesStand = (s : State) (meta : Meta) (workspace : Workspace) → IsThere s meta workspace → StandsInHistory s.history workspace
 
 -- the list with some more after it
-abbrev pub Extends : {X : Type 0} → List X → List X → Type 0
-Extends before after = (more : List _) × (after ≡ before ++ more)
+abbrev pub IsPrefix : {X : Type 0} → List X → List X → Type 0
+IsPrefix before after = (more : List _) × (after ≡ before ++ more)
 
 -- versions, branches and tags stay as they are, and there may be more of them after these
 pub record Grows (before after : History) : Type 0 where
-  pub versions : Extends before.versions after.versions
-  pub branches : Extends before.branches after.branches
-  pub tags : Extends before.tags after.tags
+  pub versions : IsPrefix before.versions after.versions
+  pub branches : IsPrefix before.branches after.branches
+  pub tags : IsPrefix before.tags after.tags
 
 -- no event that could be made changes a version, a branch's name and start, or a tag
 abbrev pub HistoryOnlyGrows : Type 0
@@ -279,7 +279,7 @@ DecidedCouldBe = (s : State) → IsOrderly s → (block : Option (List ℕ)) (co
 
 -- the line begins as the last line of a reply does: with the bytes of `ok` or of `no`
 abbrev pub looks_last : List ℕ → Bool
-looks_last line = is_word (take 2 line) (codes "ok") || is_word (take 2 line) (codes "no")
+looks_last line = text_eq (take 2 line) (codes "ok") || text_eq (take 2 line) (codes "no")
 
 -- the last line of each reply looks so
 abbrev pub LastLinesLook : Type 0

@@ -22,22 +22,22 @@ abbrev pub can_discard : Option Workspace → Bool
 can_discard workspace = is_open workspace || has_local workspace
 
 -- the last operation is dropped, where there is one and no composite is open
-abbrev pub undone : State → ℕ → Option Workspace → Decision
-undone s ws None = refused refusals.NoWorkspace
-undone s ws (Some w) =
+abbrev pub undo_in : State → ℕ → Option Workspace → Decision
+undo_in s ws None = refused refusals.NoWorkspace
+undo_in s ws (Some w) =
     if is_open (Some w) then refused refusals.CompositeOpen
     else if has_operations (Some w) then with_room s [] [] (events.Undo ws)
     else refused refusals.NothingLocal
 
 -- `undo WS`: the last operation is dropped
 unfoldable pub decide_undo : State → ℕ → Decision
-decide_undo s ws = undone s ws (workspace_of s ws)
+decide_undo s ws = undo_in s ws (workspace_of s ws)
 
 -- all that is local is dropped, and nothing changes where nothing is
-abbrev pub discarded : State → ℕ → Option Workspace → Decision
-discarded s ws None = refused refusals.NoWorkspace
-discarded s ws (Some w) = if can_discard (Some w) then with_room s [] [] (events.Discard ws) else told [] []
+abbrev pub discard_in : State → ℕ → Option Workspace → Decision
+discard_in s ws None = refused refusals.NoWorkspace
+discard_in s ws (Some w) = if can_discard (Some w) then with_room s [] [] (events.Discard ws) else told [] []
 
 -- `discard WS`: all operations, the open composite and the pending merges are dropped
 unfoldable pub decide_discard : State → ℕ → Decision
-decide_discard s ws = discarded s ws (workspace_of s ws)
+decide_discard s ws = discard_in s ws (workspace_of s ws)

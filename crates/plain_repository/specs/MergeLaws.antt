@@ -13,7 +13,7 @@ use Rattle.op_form.specs.declared.event.Event.TheVariants.{Tidy, Update, Merge}
 use Rattle.script_lang.specs.declared.command.Command.TheVariants as commands
 use Rattle.plain_repository.specs.State.{State, Workspace, workspace_of, model_of}
 use Rattle.merge_laws.specs.Choices.{side_of}
-use Rattle.merge_laws.specs.Plans.{incoming}
+use Rattle.merge_laws.specs.Plans.{theirs_of_update}
 use Rattle.plain_repository.specs.Merging.{update_buckets, merge_theirs, merge_mine, merge_buckets}
 use Rattle.plain_repository.specs.Events.{play, playable}
 use Rattle.plain_repository.specs.Repository.{decide_command}
@@ -35,7 +35,7 @@ TidyingKeepsModels = (s : State) (meta : Meta) (ws : ℕ) (before after : Worksp
 -- they keep of mine.
 abbrev pub UpdatesMerge : Type 0
 UpdatesMerge = (s : State) (meta : Meta) (ws : ℕ) (letters : List ℕ) (before after : Workspace) → Changes s meta ws (Update ws letters) before after
-    → merged meta (state_of meta s.history before.base) (incoming s.history before.branch before.base) before.operations
+    → merged meta (state_of meta s.history before.base) (theirs_of_update s.history before.branch before.base) before.operations
     (update_buckets meta s.history before) (map side_of letters)
     ≡ Some (model_of meta (play s (Update ws letters)).history after)
 

@@ -10,7 +10,7 @@ use Rattle.footprint.specs.Buckets.{buckets}
 use Rattle.merge_laws.specs.Tidy.{tidy}
 use Rattle.merge_laws.specs.Merge.{update_list, merge_list}
 use Rattle.merge_laws.specs.Choices.{are_choices, side_of}
-use Rattle.merge_laws.specs.Plans.{incoming, theirs_of, mine_of}
+use Rattle.merge_laws.specs.Plans.{theirs_of_update, theirs_of_merge, mine_of_merge}
 use Rattle.op_form.specs.declared.event.Event.TheVariants as events
 use Rattle.script_lang.specs.declared.reply.Refusal.TheVariants as refusals
 use Rattle.plain_repository.specs.State.{State, Workspace, workspace_of, is_open, is_closed}
@@ -20,7 +20,7 @@ use Rattle.plain_repository.specs.Choices.{chosen}
 -- ---- Update
 -- the buckets of an update; mine are the local operations
 abbrev pub update_buckets : Meta → History → Workspace → List Bucket
-update_buckets meta h w = buckets meta (incoming h w.branch w.base) w.operations
+update_buckets meta h w = buckets meta (theirs_of_update h w.branch w.base) w.operations
 
 -- the base is the head, and the local operations are what theirs and mine leave by the choices
 abbrev pub updated : Meta → History → List ℕ → Workspace → Workspace
@@ -28,7 +28,7 @@ updated meta h letters w =
     record w {
       base = head h w.branch;
       operations =
-          update_list (incoming h w.branch w.base) w.operations (update_buckets meta h w) (map side_of letters);
+          update_list (theirs_of_update h w.branch w.base) w.operations (update_buckets meta h w) (map side_of letters);
     }
 
 -- no composite is open, the base is not the head, and the choices fit
@@ -54,11 +54,11 @@ decide_update s meta ws choices = update_in s meta ws choices (workspace_of s ws
 -- ---- Merge
 -- theirs of a merge into a workspace
 abbrev pub merge_theirs : History → Workspace → ℕ → List Operation
-merge_theirs h w other = theirs_of h w.base w.pending other
+merge_theirs h w other = theirs_of_merge h w.base w.pending other
 
 -- and mine, tidied
 abbrev pub merge_mine : Meta → History → Workspace → ℕ → List Operation
-merge_mine meta h w other = tidy meta (mine_of h w.base w.pending w.operations other)
+merge_mine meta h w other = tidy meta (mine_of_merge h w.base w.pending w.operations other)
 
 -- the buckets of a merge
 abbrev pub merge_buckets : Meta → History → Workspace → ℕ → List Bucket
@@ -87,8 +87,8 @@ can_merge meta h branch letters (Some w) =
     is_closed (Some w) && is_other_branch h w branch && has_theirs h w (head h branch) && are_choices letters (merge_buckets meta h w (head h branch))
 
 -- nothing changes where there is nothing to merge
-abbrev pub merge_of : State → ℕ → Workspace → ℕ → List ℕ → ℕ → Decision
-merge_of s ws w branch letters other =
+abbrev pub merge_to : State → ℕ → Workspace → ℕ → List ℕ → ℕ → Decision
+merge_to s ws w branch letters other =
     if has_theirs s.history w other then with_room s [] (decimal other) (events.Merge ws branch letters) else told [] (decimal other)
 
 -- the same, where the branch is there, and another, and the choices fit
@@ -96,7 +96,7 @@ abbrev pub merge_named : State → Meta → ℕ → Workspace → Option (List �
 merge_named s meta ws w choices None = refused refusals.NoBranch
 merge_named s meta ws w choices (Some branch) =
     if branch == w.branch then refused refusals.SameBranch
-    else chosen (merge_buckets meta s.history w (head s.history branch)) choices (merge_of s ws w branch (unwrap_or choices []) (head s.history branch))
+    else chosen (merge_buckets meta s.history w (head s.history branch)) choices (merge_to s ws w branch (unwrap_or choices []) (head s.history branch))
 
 -- the same, where no composite is open
 abbrev pub merge_in : State → Meta → ℕ → List ℕ → Option (List ℕ) → Option Workspace → Decision

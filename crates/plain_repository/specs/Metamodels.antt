@@ -2,7 +2,7 @@
 use Rattle.std.specs.Prelude.{ℕ, ◌&&◌, not, List, [], Bool, Option, Some, None, Result, Ok, Err, is_none, is_ok, is_some, option_map, unwrap_or, if◌then◌else◌}
 use Rattle.ecore_meta.specs.Meta.{Meta}
 use Rattle.ecore_json.specs.declared.fault.EcoreFault.{EcoreFault}
-use Rattle.ecore_json.specs.Metamodel.{metamodel_of, fault_number}
+use Rattle.ecore_json.specs.Metamodel.{metamodel_of, ecore_fault_number}
 use Rattle.metamodel_growth.specs.Extension.{missing}
 use Rattle.metamodel_growth.specs.Evolved.{evolved}
 use Rattle.metamodel_growth.specs.Same.{is_same}
@@ -28,7 +28,7 @@ is_metamodel text = is_ok (metamodel_of text)
 
 -- a block that reads as a metamodel
 abbrev pub with_metamodel : State → List ℕ → Result Meta EcoreFault → Decision
-with_metamodel s text (Err fault) = refused (refusals.BadMetamodel (fault_number fault))
+with_metamodel s text (Err fault) = refused (refusals.BadMetamodel (ecore_fault_number fault))
 with_metamodel s text (Ok meta) = with_room s [] [] (events.Init text)
 
 -- `init`
@@ -61,7 +61,7 @@ extended s text old next None = if is_same old (evolved old next) then told [] [
 
 -- the same, where the block reads as a metamodel
 abbrev pub evolve_read : State → List ℕ → Meta → Result Meta EcoreFault → Decision
-evolve_read s text old (Err fault) = refused (refusals.BadMetamodel (fault_number fault))
+evolve_read s text old (Err fault) = refused (refusals.BadMetamodel (ecore_fault_number fault))
 evolve_read s text old (Ok next) = extended s text old next (missing old next)
 
 -- `evolve`

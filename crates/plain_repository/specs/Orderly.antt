@@ -46,7 +46,7 @@ pub record StandsInHistory (h : History) (workspace : Workspace) : Type 0 where
   pub pending : All (λ v. v < length h.versions) workspace.pending
 
 -- a workspace that stands in the history, and whose steps are a run
-pub record InOrder (meta : Meta) (h : History) (w : Workspace) : Type 0 where
+pub record IsOrderlyWorkspace (meta : Meta) (h : History) (w : Workspace) : Type 0 where
   pub stands : StandsInHistory h w
   pub runs : Runs meta h w
 
@@ -79,7 +79,7 @@ pub record Orderly (meta : Meta) (s : State) : Type 0 where
   pub heads : HeadsLead s.history
   pub names : HasNames s.history
   pub versions : (v : ℕ) → v < length s.history.versions → RunsTo meta s.history v
-  pub workspaces : AllByRecursion (IfThere (InOrder meta s.history)) s.workspaces
+  pub workspaces : AllByRecursion (IfThere (IsOrderlyWorkspace meta s.history)) s.workspaces
 
 -- before there is one, there is no workspace and no version, and the store is not upgraded
 abbrev pub AllOrderly : Option Meta → State → Type 0

@@ -11,10 +11,10 @@ use Rattle.script_lang.specs.declared.reply.Refusal.{Refusal}
 use Rattle.script_lang.specs.declared.reply.Refusal.TheVariants as refusals
 
 -- the version that SPEC names, with the branch of that name, or else the version's
-abbrev pub named : History → Spec → Result Found FindFault
-named h (specs.Number n) = found_by_number h n
-named h (specs.Branch name) = found_by_branch h name
-named h (specs.Tag name) = found_by_tag h name
+abbrev pub found_by_spec : History → Spec → Result Found FindFault
+found_by_spec h (specs.Number n) = found_by_number h n
+found_by_spec h (specs.Branch name) = found_by_branch h name
+found_by_spec h (specs.Tag name) = found_by_tag h name
 
 -- the refusal where it names none
 abbrev pub unknown : FindFault → Refusal

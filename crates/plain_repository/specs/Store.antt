@@ -2,7 +2,7 @@
 use Rattle.std.specs.Prelude.{◌≡◌, ◌⊎◌, ℕ, ◌^◌, ◌<◌, List, [], ◌∷◌, ◌++◌, IsTrue, length, map}
 use Rattle.byte_form.specs.Laws.{AreBytes}
 use Rattle.host_port.specs.Host.{Disk}
-use Rattle.commit_journal.specs.Journal.{StandsFor, ReadsTo, IsStuck, IsNoHeader, IsAtRest, new_size, next_gate}
+use Rattle.commit_journal.specs.Journal.{StandsFor, ReadsTo, IsStuck, IsNoHeader, IsJournalAtRest, new_size, next_gate}
 use Rattle.op_form.specs.declared.event.Event.{Event}
 use Rattle.op_form.specs.Events.{event_encoding}
 use Rattle.plain_repository.specs.State.{empty}
@@ -58,6 +58,6 @@ abbrev pub DamagedStandsForNone : Type 0
 DamagedStandsForNone = (file : List ℕ) (at : ℕ) → IsDamaged file at → StandsForNoEvents file
 
 -- a store between two commands: all of it is stable, and it stands for the events up to the closed gate at end
-pub record Rests (disk : Disk) (end : ℕ) (events : List Event) : Type 0 where
-  pub journal : IsAtRest disk (map event_encoding events) end
+pub record IsStoreAtRest (disk : Disk) (end : ℕ) (events : List Event) : Type 0 where
+  pub journal : IsJournalAtRest disk (map event_encoding events) end
   pub playable : IsTrue (are_playable empty events)

@@ -17,13 +17,13 @@ can_tidy meta None = false
 can_tidy meta (Some w) = is_closed (Some w) && not (is_tidy meta w.operations)
 
 -- the operations are tidied, where no composite is open, and nothing changes where they are tidy
-abbrev pub tidy_of : State → Meta → ℕ → Option Workspace → Decision
-tidy_of s meta ws None = refused refusals.NoWorkspace
-tidy_of s meta ws (Some w) =
+abbrev pub tidy_in : State → Meta → ℕ → Option Workspace → Decision
+tidy_in s meta ws None = refused refusals.NoWorkspace
+tidy_in s meta ws (Some w) =
     if is_open (Some w) then refused refusals.CompositeOpen
     else if is_tidy meta w.operations then told [] []
     else with_room s [] [] (events.Tidy ws)
 
 -- `tidy WS`: the operations are tidied
 unfoldable pub decide_tidy : State → Meta → ℕ → Decision
-decide_tidy s meta ws = tidy_of s meta ws (workspace_of s ws)
+decide_tidy s meta ws = tidy_in s meta ws (workspace_of s ws)

@@ -8,7 +8,7 @@ use Rattle.model_state.specs.Keys.{IdBytes}
 use Rattle.model_state.specs.State.{State, is_live}
 use Rattle.model_state.specs.Typing.{kind_of}
 use Rattle.model_state.specs.declared.step.Place.{Place}
-use Rattle.emfjson_io.specs.Values.{value_of}
+use Rattle.emfjson_values.specs.Values.{value_of}
 use Rattle.edit_steps.specs.declared.fault.EditFault.{EditFault}
 use Rattle.edit_steps.specs.declared.fault.EditFault.TheVariants.{BadId, IdInUse, Memory}
 use Rattle.edits.specs.declared.edit.Edit.{Edit}

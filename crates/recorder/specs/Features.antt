@@ -8,10 +8,11 @@ use Rattle.edit_steps.specs.declared.fault.EditFault.{EditFault}
 use Rattle.edit_steps.specs.declared.fault.EditFault.TheVariants.{WrongKind}
 use Rattle.edits.specs.declared.edit.Edit.{Edit}
 use Rattle.edits.specs.declared.edit.Edit.TheVariants.{Create, Delete, Set, Unset, Add, Remove, Shift, Link, Unlink, Reorder, Move}
-use Rattle.edits.specs.Edits.{Reading, Effect, set_effect, unset_effect, add_effect, remove_effect, shift_effect, link_effect, unlink_effect, reorder_effect}
+use Rattle.edits.specs.Edits.{ValueReading, Effect, set_effect, unset_effect, add_effect, remove_effect, shift_effect, link_effect, unlink_effect}
+use Rattle.edits.specs.Edits.{reorder_effect}
 
 -- the effect of an edit on a feature of an element, by the feature's kind; another edit is refused
-unfoldable pub effect_on : Reading → Meta → State → IdBytes → Edit → ℕ → Kind → Result Effect EditFault
+unfoldable pub effect_on : ValueReading → Meta → State → IdBytes → Edit → ℕ → Kind → Result Effect EditFault
 effect_on reading meta m e (Create class destination id) f kind = Err WrongKind
 effect_on reading meta m e (Delete id) f kind = Err WrongKind
 effect_on reading meta m e (Set id feature value) f kind = set_effect reading meta m e f kind value

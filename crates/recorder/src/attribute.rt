@@ -6,7 +6,7 @@ ghost use Rattle.model_state.specs.Steps.{class_has};
 ghost use Rattle.model_state.specs.Typing.{kind_of};
 ghost use Rattle.model_state.specs.declared.operation.OpKind.TheVariants.{Attribute};
 ghost use Rattle.model_state.specs.declared.step.Step.TheVariants.{Put};
-ghost use Rattle.emfjson_io.specs.Values.{value_of};
+ghost use Rattle.emfjson_values.specs.Values.{value_of};
 ghost use Rattle.edit_steps.specs.Attributes.{single_value, put_made, taken};
 ghost use Rattle.edits.specs.Edits.{operation_of, recording_of, set_effect, unset_effect};
 ghost use Rattle.edits.specs.Answers.{Answers};

@@ -3,14 +3,14 @@ ghost use Rattle.std.specs.Prelude.{◌≡◌, ◌⊎◌, IfErr, IfOk, OnOk, is_
 ghost use Rattle.std.specs.FinMap.{get};
 ghost use Rattle.model_state.specs.Good.{Good};
 ghost use Rattle.model_state.specs.Steps.{class_has};
-ghost use Rattle.emfjson_io.specs.Values.{value_of};
+ghost use Rattle.emfjson_values.specs.Values.{value_of};
 ghost use Rattle.edit_steps.specs.declared.fault.EditFault.TheVariants.{Memory, NoElement};
 ghost use Rattle.edits.specs.Edits.{class_at, feature_at};
 ghost use Rattle.recorder.specs.Answers.{AnswersFeature, AnswersValue};
 
 use ecore_meta::{Metamodel, Scalar, Value, ValueFault};
 use edit_steps::EditFault;
-use emfjson_io::read_value;
+use emfjson_values::read_value;
 use model_state::{Id, IdFault, Look};
 use std::alloc::Global;
 use texts::Text;

@@ -8,7 +8,7 @@ ghost use Rattle.ecore_meta.specs.Typing.{upper_of};
 ghost use Rattle.model_state.specs.Good.{Good};
 ghost use Rattle.model_state.specs.Lists.{shifted};
 ghost use Rattle.model_state.specs.Typing.{is_many, kind_of, value_eq};
-ghost use Rattle.emfjson_io.specs.Values.{value_of};
+ghost use Rattle.emfjson_values.specs.Values.{value_of};
 ghost use Rattle.model_state.specs.declared.operation.OpKind.TheVariants.{ManyAttribute};
 ghost use Rattle.model_state.specs.declared.step.Step.TheVariants.{Del, Ins};
 ghost use Rattle.edits.specs.Edits.{Clears, accepts, operation_of, add_effect, insert_effect, recording, recording_of, remove_effect, shift_effect};

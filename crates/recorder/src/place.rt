@@ -2,7 +2,7 @@
 ghost use Rattle.std.specs.Prelude.{◌≡◌, IfOk, IfErr, OnOk, None, true};
 ghost use Rattle.model_state.specs.Good.{Good};
 ghost use Rattle.model_state.specs.State.{is_live};
-ghost use Rattle.edit_steps.specs.MoveRefusals.{IsPlace, IsRefusal, move_refusal, place_of};
+ghost use Rattle.edit_steps.specs.MoveRefusals.{IsPlace, IsPlaceRefusal, move_refusal, place_of};
 ghost use Rattle.edit_steps.specs.Moves.{move_made};
 ghost use Rattle.edit_steps.specs.Containers.{containers_of};
 ghost use Rattle.edits.specs.Edits.{delete_effect, move_effect, place_at, recording_of};
@@ -57,7 +57,7 @@ fn moved<L: Look>(
     requires place { IsPlace meta.now (L.state look.now) place.now }
     ensures made { IfOk result (λ s. let m = L.state look.now in s ≡ move_made m e.now place.now index (containers_of m (place_of m e.now)) (containers_of m place.now)) }
     ensures taken { OnOk result (move_refusal meta.now (L.state look.now) e.now place.now (containers_of (L.state look.now) place.now) index ≡ None) }
-    ensures refused { IfErr result (λ x. IsRefusal (move_refusal meta.now (L.state look.now) e.now place.now (containers_of (L.state look.now) place.now) index) x) }
+    ensures refused { IfErr result (λ x. IsPlaceRefusal (move_refusal meta.now (L.state look.now) e.now place.now (containers_of (L.state look.now) place.now) index) x) }
 {
     move_steps(alloc, look, meta, e, place, index)
 }

@@ -4,7 +4,7 @@ ghost use Rattle.std.specs.FinMap.{get};
 ghost use Rattle.model_state.specs.Good.{Good};
 ghost use Rattle.model_state.specs.Steps.{class_has};
 ghost use Rattle.model_state.specs.Typing.{kind_of};
-ghost use Rattle.emfjson_io.specs.Values.{value_of};
+ghost use Rattle.emfjson_values.specs.Values.{value_of};
 ghost use Rattle.recorder.specs.Features.{effect_on};
 ghost use Rattle.edits.specs.RecordingLaws.{KeepsGood};
 ghost use Rattle.edits.specs.Recording.{recorded};

@@ -7,7 +7,7 @@ ghost use Rattle.model_state.specs.Ident.{is_id};
 ghost use Rattle.model_state.specs.Steps.{class_has};
 ghost use Rattle.model_state.specs.Typing.{is_plain, kind_of};
 ghost use Rattle.model_state.specs.declared.operation.OpKind.TheVariants.{Reference};
-ghost use Rattle.emfjson_io.specs.Values.{value_of};
+ghost use Rattle.emfjson_values.specs.Values.{value_of};
 ghost use Rattle.edit_steps.specs.declared.fault.EditFault.TheVariants.{Memory, NoEntry};
 ghost use Rattle.edit_steps.specs.References.{holds_one};
 ghost use Rattle.edits.specs.Edits.{Forgets, is_listed, link_effect, operation_of, recording, recording_of, refer_effect, reorder_effect, target_in, unlink_effect};

@@ -32,16 +32,16 @@ use Rattle.script_lang.specs.declared.command.Spec.TheVariants as specs
 use Rattle.plain_repository.specs.State.{State, Workspace, model_of, is_open, is_closed, has_operations, has_local}
 use Rattle.plain_repository.specs.Answers.{Decision, most_events, with_room, accepted, is_refusal}
 use Rattle.plain_repository.specs.Metamodels.{with_metamodel, extension_of, extended, evolve_read}
-use Rattle.plain_repository.specs.Checkouts.{decide_checkout, checkout_of, can_check_out, drop_of}
-use Rattle.plain_repository.specs.Commits.{version_made, commit_of, signed_of, decide_upgrade, can_commit, branch_of, is_new_branch, decide_tag}
-use Rattle.plain_repository.specs.Commits.{tag_of, can_tag}
-use Rattle.plain_repository.specs.Composites.{begun, ended}
-use Rattle.plain_repository.specs.Local.{undone, can_undo, discarded, can_discard}
-use Rattle.plain_repository.specs.Tidying.{tidy_of, can_tidy}
+use Rattle.plain_repository.specs.Checkouts.{decide_checkout, checkout_found, can_check_out, drop_in}
+use Rattle.plain_repository.specs.Commits.{version_made, commit_in, signed_in, decide_upgrade, can_commit, branch_in, is_new_branch, decide_tag}
+use Rattle.plain_repository.specs.Commits.{tag_found, can_tag}
+use Rattle.plain_repository.specs.Composites.{begin_in, end_in}
+use Rattle.plain_repository.specs.Local.{undo_in, can_undo, discard_in, can_discard}
+use Rattle.plain_repository.specs.Tidying.{tidy_in, can_tidy}
 use Rattle.plain_repository.specs.Edits.{takes, can_follow}
 use Rattle.plain_repository.specs.Applying.{applied, load_package}
 use Rattle.plain_repository.specs.Choices.{chosen}
-use Rattle.plain_repository.specs.Merging.{update_buckets, update_in, update_to, can_update, merge_buckets, merge_in, merge_of, can_merge}
+use Rattle.plain_repository.specs.Merging.{update_buckets, update_in, update_to, can_update, merge_buckets, merge_in, merge_to, can_merge}
 use Rattle.plain_repository.specs.Merging.{is_other_branch, has_theirs}
 use Rattle.plain_repository.specs.Orderly.{HasNames}
 use Rattle.plain_repository.proofs.Encodings.{and_left, and_right, not_so}
@@ -109,10 +109,10 @@ evolve_makes s text old (Ok next) has is = by (missing old next) (is_same old (e
 -- ---- checkouts
 own_version : (s : State) (meta : Meta) (version branch : ℕ) (o : Option Version) → slice_get s.history.versions version ≡ o
     → option_map_or (λ v. nat_eq v.branch branch) o false ≡ true
-    → HasRoom s (Checkout version branch) → Makes (checkout_of s meta (on_its_branch version o)) (Checkout version branch)
+    → HasRoom s (Checkout version branch) → Makes (checkout_found s meta (on_its_branch version o)) (Checkout version branch)
 own_version s meta version branch None is own has = absurd cc
 own_version s meta version branch (Some v) is own has =
-    subst (λ (b : ℕ). Makes (checkout_of s meta (Ok (record { version = version; branch = b }))) (Checkout version branch))
+    subst (λ (b : ℕ). Makes (checkout_found s meta (Ok (record { version = version; branch = b }))) (Checkout version branch))
     (sym (eqb-true v.branch branch own)) (made s _ _ (Checkout version branch) has)
 
 pub number_makes : (s : State) (meta : Meta) (version branch : ℕ) → is_of_branch s.history version branch ≡ true → HasRoom s (Checkout version branch)
@@ -138,34 +138,34 @@ head_makes s meta version branch named could own has =
     (and_right there (is_of_branch h version branch || nat_eq (head h branch) version) could)) in
     rw ((branch_found h named branch within).1, at_head) (made s _ _ (Checkout version branch) has)
 
-pub drop_makes : (s : State) (ws : ℕ) (o : Option Workspace) → HasRoom s (Drop ws) → is_some o ≡ true → Makes (drop_of s ws o) (Drop ws)
+pub drop_makes : (s : State) (ws : ℕ) (o : Option Workspace) → HasRoom s (Drop ws) → is_some o ≡ true → Makes (drop_in s ws o) (Drop ws)
 drop_makes s ws None has is = absurd cc
 drop_makes s ws (Some w) has is = made s [] [] (Drop ws) has
 
 -- ---- composites
 pub begin_makes : (s : State) (ws : ℕ) (name : List ℕ) (o : Option Workspace) → HasRoom s (Begin ws name) → is_closed o ≡ true
-    → Makes (begun s ws name o) (Begin ws name)
+    → Makes (begin_in s ws name o) (Begin ws name)
 begin_makes s ws name None has is = absurd cc
 begin_makes s ws name (Some w) has is = rw (not_so (is_some w.composite) is) (made s [] [] (Begin ws name) has)
 
-pub end_makes : (s : State) (ws : ℕ) (o : Option Workspace) → HasRoom s (End ws) → is_open o ≡ true → Makes (ended s ws o) (End ws)
+pub end_makes : (s : State) (ws : ℕ) (o : Option Workspace) → HasRoom s (End ws) → is_open o ≡ true → Makes (end_in s ws o) (End ws)
 end_makes s ws None has is = absurd cc
 end_makes s ws (Some w) has is = let open_is : is_some w.composite ≡ true = is in rw open_is (made s [] [] (End ws) has)
 
 -- ---- what is local
-pub undo_makes : (s : State) (ws : ℕ) (o : Option Workspace) → HasRoom s (Undo ws) → can_undo o ≡ true → Makes (undone s ws o) (Undo ws)
+pub undo_makes : (s : State) (ws : ℕ) (o : Option Workspace) → HasRoom s (Undo ws) → can_undo o ≡ true → Makes (undo_in s ws o) (Undo ws)
 undo_makes s ws None has is = absurd cc
 undo_makes s ws (Some w) has is =
     let closed = not_so (is_some w.composite) (and_left (is_closed (Some w)) (has_operations (Some w)) is) in
     let some : nat_lt 0 (length w.operations) ≡ true = and_right (is_closed (Some w)) (has_operations (Some w)) is in
     rw (closed, some) (made s [] [] (Undo ws) has)
 
-pub discard_makes : (s : State) (ws : ℕ) (o : Option Workspace) → HasRoom s (Discard ws) → can_discard o ≡ true → Makes (discarded s ws o) (Discard ws)
+pub discard_makes : (s : State) (ws : ℕ) (o : Option Workspace) → HasRoom s (Discard ws) → can_discard o ≡ true → Makes (discard_in s ws o) (Discard ws)
 discard_makes s ws None has is = absurd cc
 discard_makes s ws (Some w) has is = if_so (can_discard (Some w)) (λ (d : Decision). Makes d (Discard ws)) _ _ is (made s [] [] (Discard ws) has)
 
 pub tidy_makes : (s : State) (meta : Meta) (ws : ℕ) (o : Option Workspace) → HasRoom s (Tidy ws) → can_tidy meta o ≡ true
-    → Makes (tidy_of s meta ws o) (Tidy ws)
+    → Makes (tidy_in s meta ws o) (Tidy ws)
 tidy_makes s meta ws None has is = absurd cc
 tidy_makes s meta ws (Some w) has is =
     let closed = not_so (is_some w.composite) (and_left (is_closed (Some w)) (not (is_tidy meta w.operations)) is) in
@@ -186,13 +186,13 @@ version_makes s w event has is =
     (if_so (has_local (Some w)) P _ _ (and_right (at_head && is_closed (Some w)) (has_local (Some w)) is) (made s _ _ event has)))
 
 pub commit_makes : (s : State) (ws : ℕ) (message : List ℕ) (o : Option Workspace) → HasRoom s (Commit ws message) → not s.upgraded ≡ true
-    → can_commit s.history o ≡ true → Makes (commit_of s ws message o) (Commit ws message)
+    → can_commit s.history o ≡ true → Makes (commit_in s ws message o) (Commit ws message)
 commit_makes s ws message None has old is = absurd cc
 commit_makes s ws message (Some w) has old is =
     if_not s.upgraded (λ (d : Decision). Makes d (Commit ws message)) _ _ (not_so s.upgraded old) (version_makes s w (Commit ws message) has is)
 
 pub signed_makes : (s : State) (ws : ℕ) (author : List ℕ) (moment : ℕ) (message : List ℕ) (o : Option Workspace) → HasRoom s (Signed ws author moment message)
-    → s.upgraded ≡ true → can_commit s.history o ≡ true → Makes (signed_of s ws author moment message o) (Signed ws author moment message)
+    → s.upgraded ≡ true → can_commit s.history o ≡ true → Makes (signed_in s ws author moment message o) (Signed ws author moment message)
 signed_makes s ws author moment message None has new is = absurd cc
 signed_makes s ws author moment message (Some w) has new is =
     let e = Signed ws author moment message in
@@ -203,17 +203,17 @@ unfolding decide_upgrade
 upgrade_makes s has old = if_not s.upgraded (λ (d : Decision). Makes d Upgrade) _ _ (not_so s.upgraded old) (made s [] [] Upgrade has)
 
 pub branch_makes : (s : State) (ws : ℕ) (name : List ℕ) (o : Option Workspace) → HasRoom s (Branch ws name) → is_new_branch s.history name ≡ true
-    → is_closed o ≡ true → Makes (branch_of s ws name o) (Branch ws name)
+    → is_closed o ≡ true → Makes (branch_in s ws name o) (Branch ws name)
 branch_makes s ws name None has new is = absurd cc
 branch_makes s ws name (Some w) has new is =
     let P : Decision → Type 0 = λ d. Makes d (Branch ws name) in
     if_not (is_some w.composite) P _ _ (not_so (is_some w.composite) is) (if_so (is_new_branch s.history name) P _ _ new (made s [] [] (Branch ws name) has))
 
-tag_found : (s : State) (name : List ℕ) (version : ℕ) (vs : List Version) (k : ℕ) → k < length vs → HasRoom s (Tag name version)
-    → Makes (tag_of s name (on_its_branch version (slice_get vs k))) (Tag name version)
-tag_found s name version [] k within has = absurd (omega (arith, within))
-tag_found s name version (v ∷ vs) zero within has = made s [] [] (Tag name version) has
-tag_found s name version (v ∷ vs) (suc k) within has = tag_found s name version vs k (omega (arith, within)) has
+tag_is_found : (s : State) (name : List ℕ) (version : ℕ) (vs : List Version) (k : ℕ) → k < length vs → HasRoom s (Tag name version)
+    → Makes (tag_found s name (on_its_branch version (slice_get vs k))) (Tag name version)
+tag_is_found s name version [] k within has = absurd (omega (arith, within))
+tag_is_found s name version (v ∷ vs) zero within has = made s [] [] (Tag name version) has
+tag_is_found s name version (v ∷ vs) (suc k) within has = tag_is_found s name version vs k (omega (arith, within)) has
 
 pub tag_makes : (s : State) (name : List ℕ) (version : ℕ) → HasRoom s (Tag name version) → can_tag s.history name version ≡ true
     → Makes (decide_tag s name (specs.Number version)) (Tag name version)
@@ -223,7 +223,7 @@ tag_makes s name version has is =
     let new = not_so (has_tag s.history name) (and_right (is_name name) (not (has_tag s.history name)) front) in
     let within = ltb-true version (length s.history.versions)
     (and_right (is_name name && not (has_tag s.history name)) (nat_lt version (length s.history.versions)) is) in
-    if_not (has_tag s.history name) (λ (d : Decision). Makes d (Tag name version)) _ _ new (tag_found s name version s.history.versions version within has)
+    if_not (has_tag s.history name) (λ (d : Decision). Makes d (Tag name version)) _ _ new (tag_is_found s name version s.history.versions version within has)
 
 -- ---- merging
 -- choices that fit, and none where no bucket is, let the decision through
@@ -275,7 +275,7 @@ merge_makes s meta ws branch letters (Some w) named has is =
     let fit = and_right (is_closed (Some w) && apart && more) fits is in
     let P : Decision → Type 0 = λ d. Makes d (Merge ws branch letters) in
     if_not (is_some w.composite) P _ _ closed (rw (branch_found h named branch within).1 (if_not (nat_eq branch w.branch) P _ _ not_own
-    (chosen_so rows letters (merge_of s ws w branch (unwrap_or (unless_empty letters) []) other) (Merge ws branch letters) fit
+    (chosen_so rows letters (merge_to s ws w branch (unwrap_or (unless_empty letters) []) other) (Merge ws branch letters) fit
     (if_so more P _ _ some (subst (λ (l : List ℕ). Makes (with_room s [] (decimal other) (Merge ws branch l)) (Merge ws branch letters))
     (sym (word_back letters)) (made s [] _ (Merge ws branch letters) has))))))
 

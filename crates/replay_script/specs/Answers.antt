@@ -3,7 +3,7 @@ use Rattle.std.specs.Prelude.{◌≡◌, ◌⊎◌, ℕ, List, not, true, false,
 use Rattle.std.specs.Borrow.{Bor}
 use Rattle.printed_items.specs.Printed.{printed_item}
 use Rattle.op_form.specs.declared.event.Event.{Event}
-use Rattle.history_tree.specs.Room.{Held}
+use Rattle.history_tree.specs.Room.{HistoryState}
 use Rattle.history_tree.specs.History.{History, no_history}
 use Rattle.script_lang.specs.Spelling.{spaced}
 use Rattle.replay_script.specs.Lines.{words_again, block_again, item_again}
@@ -12,7 +12,7 @@ use Rattle.replay_script.specs.declared.fault.PrintFault.{PrintFault}
 use Rattle.replay_script.specs.declared.fault.PrintFault.TheVariants.{Unknown, TooLong, NotPrintable, Memory}
 
 -- the history, which has no version and no branch before the first event
-abbrev pub history_of : Option (Bor Held) → History
+abbrev pub history_of : Option (Bor HistoryState) → History
 history_of None = no_history
 history_of (Some h) = h.now.history
 

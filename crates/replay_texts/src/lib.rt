@@ -3,4 +3,4 @@
 
 mod laws;
 
-pub use laws::law_of_texts;
+pub use laws::law_of_script_texts;

@@ -4,7 +4,7 @@ use Rattle.std.proofs.Common.{OnErr, refl, sym, ◌∙◌, ap, subst, arith}
 use Rattle.std.specs.Prelude.{All, if◌then◌else◌}
 use Rattle.std.proofs.lemmas.List.Elements.{All-append, All-cons, All-nil}
 use Rattle.op_form.specs.declared.event.Event.TheVariants.{Checkout}
-use Rattle.plain_repository.specs.Checkouts.{checked_out}
+use Rattle.plain_repository.specs.Checkouts.{with_checkout}
 use Rattle.std.specs.Option.{option_map}
 use Rattle.std.proofs.Math.ListN.{set, get_or}
 use Rattle.ecore_meta.specs.Meta.{Meta}
@@ -163,7 +163,7 @@ map_more (w ∷ ws) x = ap (λ (l : List (Option Workspace)). plain_any w ∷ l)
 -- a workspace more
 pub pushed_view : (b : Option Begun) (ws : List (Option Kept)) (events end : ℕ) (s : State) (w : Kept) (version branch : ℕ)
     → held b (map plain_any ws) events end ≡ s → plain_of w ≡ untouched branch version
-    → held b (map plain_any (ws ++ Some w ∷ [])) events end ≡ checked_out version branch s
+    → held b (map plain_any (ws ++ Some w ∷ [])) events end ≡ with_checkout version branch s
 pushed_view b ws events end s w version branch view is =
     ap (λ (l : List (Option Workspace)). held b l events end) (map_more ws (Some w))
     ∙ ap (λ (o : Workspace). held b (map plain_any ws ++ Some o ∷ []) events end) is

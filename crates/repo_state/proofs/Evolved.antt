@@ -11,7 +11,7 @@ use Rattle.op_form.specs.declared.event.Event.TheVariants.{Evolve, Upgrade}
 use Rattle.plain_repository.specs.State.{State, Workspace}
 use Rattle.plain_repository.specs.Metamodels.{grown}
 use Rattle.plain_repository.specs.Events.{effect, playable_with}
-use Rattle.plain_repository.specs.Orderly.{InOrder, IfThere, IsOrderly, Orderly}
+use Rattle.plain_repository.specs.Orderly.{IsOrderlyWorkspace, IfThere, IsOrderly, Orderly}
 use Rattle.plain_repository.proofs.Evolving.{grown_is, kept_fits}
 use Rattle.plain_repository.proofs.Reached.{kept}
 use Rattle.repo_state.specs.declared.repo.Begun.{Begun}
@@ -21,7 +21,7 @@ use Rattle.repo_state.proofs.Changing.{held}
 use Rattle.repo_state.proofs.Effects.{begun_is, could_with, history_is}
 
 module _ (old new : Meta) (grew : Evolves old new) (h : History) where
-  each_fits : (ws : List (Option Kept)) → AllByRecursion (IfThere (InOrder old h)) (map plain_any ws) → AllByRecursion (FitsAny old h) ws
+  each_fits : (ws : List (Option Kept)) → AllByRecursion (IfThere (IsOrderlyWorkspace old h)) (map plain_any ws) → AllByRecursion (FitsAny old h) ws
       → AllByRecursion (FitsAny new h) ws
   each_fits [] order fits = tt
   each_fits (None ∷ ws) order fits = (tt, each_fits ws order.1 fits.1)
@@ -49,8 +49,8 @@ module _ (b : Option Begun) (begun : Begun) (ws : List (Option Kept)) (events en
   fits : All (FitsAny begun.meta s.history) ws
   fits = subst (λ (h : History). All (FitsAny begun.meta h) ws) (sym hist) (subst (λ (o : Option Begun). AllFit o ws) is fit)
 
-  in_order : AllByRecursion (IfThere (InOrder begun.meta s.history)) (map plain_any ws)
-  in_order = subst (AllByRecursion (IfThere (InOrder begun.meta s.history))) (sym (ap (λ (t : State). t.workspaces) view)) order.workspaces
+  in_order : AllByRecursion (IfThere (IsOrderlyWorkspace begun.meta s.history)) (map plain_any ws)
+  in_order = subst (AllByRecursion (IfThere (IsOrderlyWorkspace begun.meta s.history))) (sym (ap (λ (t : State). t.workspaces) view)) order.workspaces
 
   pub evolve_fit : (text : List ℕ) (m : Meta) → playable_with s s.meta (Evolve text) ≡ true → option_map (grown text) s.meta ≡ Some m
       → AllFit (Some (record begun { meta = m })) ws

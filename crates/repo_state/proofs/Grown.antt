@@ -15,7 +15,7 @@ use Rattle.op_form.specs.declared.event.Event.TheVariants.{Branch, Tag}
 use Rattle.plain_repository.specs.State.{State, Workspace, folded, is_closed, has_local, with_changed, workspace_of}
 use Rattle.plain_repository.specs.Commits.{can_commit, committed, is_new_branch, moved_onto, version_event, version_of, with_commit, with_new_branch}
 use Rattle.plain_repository.specs.Events.{effect, playable_with}
-use Rattle.plain_repository.specs.Orderly.{InOrder, IfThere, IsOrderly, StandsInHistory}
+use Rattle.plain_repository.specs.Orderly.{IsOrderlyWorkspace, IfThere, IsOrderly, StandsInHistory}
 use Rattle.plain_repository.proofs.Commits.{version_asked, version_effect}
 use Rattle.plain_repository.proofs.Encodings.{and_left, and_right}
 use Rattle.plain_repository.proofs.Reached.{kept, workspaces_stand}
@@ -92,8 +92,8 @@ module _ (b : Option Begun) (begun new : Begun) (ws : List (Option Kept)) (event
   is_begun : s.meta ≡ Some begun.meta
   is_begun = begun_is b begun (map plain_any ws) events end s view is
 
-  in_order : AllByRecursion (IfThere (InOrder begun.meta s.history)) (map plain_any ws)
-  in_order = subst (AllByRecursion (IfThere (InOrder begun.meta s.history))) (sym (ap (λ (t : State). t.workspaces) view))
+  in_order : AllByRecursion (IfThere (IsOrderlyWorkspace begun.meta s.history)) (map plain_any ws)
+  in_order = subst (AllByRecursion (IfThere (IsOrderlyWorkspace begun.meta s.history))) (sym (ap (λ (t : State). t.workspaces) view))
       (kept s begun.meta (record { orderly = orderly; begun = is_begun })).workspaces
 
   fits : All (FitsAny begun.meta s.history) ws

@@ -7,7 +7,7 @@ use Rattle.footprint.specs.declared.bucket.Bucket.{Bucket}
 use Rattle.history_tree.specs.History.{History, head}
 use Rattle.merge_laws.specs.Merge.{merge_list, update_list}
 use Rattle.merge_laws.specs.Choices.{are_choices, side_of}
-use Rattle.merge_laws.specs.Plans.{incoming}
+use Rattle.merge_laws.specs.Plans.{theirs_of_update}
 use Rattle.model_state.specs.declared.operation.Operation.{Operation}
 use Rattle.op_form.specs.declared.event.Event.TheVariants.{Merge}
 use Rattle.plain_repository.specs.Events.{playable_with}
@@ -37,12 +37,12 @@ merge_is meta h w other letters theirs mine list rows theirs_are mine_are rows_a
     ∙ ap (λ (l : List Bucket). merge_list (merge_theirs h w other) (merge_mine meta h w other) l (map side_of letters)) rows_are
 
 pub update_is : (meta : Meta) (h g : History) (w : Workspace) (letters : List ℕ) (theirs mine list : List Operation) (rows : List Bucket) → h ≡ g
-    → theirs ≡ incoming g w.branch w.base → mine ≡ w.operations → rows ≡ update_buckets meta g w
+    → theirs ≡ theirs_of_update g w.branch w.base → mine ≡ w.operations → rows ≡ update_buckets meta g w
     → list ≡ update_list theirs mine rows (map side_of letters) → list ≡ (updated meta h letters w).operations
 update_is meta h g w letters theirs mine list rows same theirs_are mine_are rows_are is =
     is ∙ ap (λ (l : List Operation). update_list l mine rows (map side_of letters)) theirs_are
-    ∙ ap (λ (l : List Operation). update_list (incoming g w.branch w.base) l rows (map side_of letters)) mine_are
-    ∙ ap (λ (l : List Bucket). update_list (incoming g w.branch w.base) w.operations l (map side_of letters)) rows_are
+    ∙ ap (λ (l : List Operation). update_list (theirs_of_update g w.branch w.base) l rows (map side_of letters)) mine_are
+    ∙ ap (λ (l : List Bucket). update_list (theirs_of_update g w.branch w.base) w.operations l (map side_of letters)) rows_are
     ∙ ap (λ (k : History). (updated meta k letters w).operations) (sym same)
 
 -- ---- whether there is something to merge

@@ -25,7 +25,7 @@ use Rattle.plain_repository.specs.Composites.{with_open, with_closed}
 use Rattle.plain_repository.specs.Edits.{added, with_more}
 use Rattle.plain_repository.specs.Local.{can_undo}
 use Rattle.plain_repository.proofs.Encodings.{and_left}
-use Rattle.plain_repository.specs.Orderly.{Orderly, InOrder, IfThere}
+use Rattle.plain_repository.specs.Orderly.{Orderly, IsOrderlyWorkspace, IfThere}
 use Rattle.plain_repository.proofs.Commits as commits
 use Rattle.plain_repository.proofs.Kept.{commit_itself}
 use Rattle.plain_repository.proofs.Recorded.{ByWay, by_way, steps_append, more_steps, opened_steps, closed_steps}
@@ -122,7 +122,7 @@ commit_folded s meta k ws w signature message there can =
     let order = commits.order s meta k ws w signature message there can in
     let more = with_version s.history (version_of w signature message) in
     let n = length s.history.versions in
-    let after : InOrder meta more (committed n w) =
+    let after : IsOrderlyWorkspace meta more (committed n w) =
     commit_itself meta s k signature message w order (commits.at_head s meta k ws w signature message there can)
     (commits.closed s meta k ws w signature message there can) w.composite refl in
     workspace_folded meta more (committed n w) after.runs
@@ -136,7 +136,7 @@ pub same_folded : (meta : Meta) (g h : History) (w : Workspace) → operations_t
 same_folded meta g h w same = ap (λ (os : List Operation). fold meta (unwrap_or (fold_package meta nothing os) nothing) (recorded_steps w)) same
 
 module _ (meta : Meta) (h g : History) (same : (v : ℕ) → v < length h.versions → operations_to g v ≡ operations_to h v) where
-  each_fits : (ws : List (Option Kept)) → AllByRecursion (IfThere (InOrder meta h)) (map plain_any ws) → AllByRecursion (FitsAny meta h) ws
+  each_fits : (ws : List (Option Kept)) → AllByRecursion (IfThere (IsOrderlyWorkspace meta h)) (map plain_any ws) → AllByRecursion (FitsAny meta h) ws
       → AllByRecursion (FitsAny meta g) ws
   each_fits [] order fits = tt
   each_fits (None ∷ ws) order fits = (tt, each_fits ws order.1 fits.1)
@@ -144,5 +144,6 @@ module _ (meta : Meta) (h g : History) (same : (v : ℕ) → v < length h.versio
       (fits_same meta h g w w (same_folded meta g h (plain_of w) (same w.base order.0.stands.base)) refl fits.0, each_fits ws order.1 fits.1)
 
   -- each model that is kept stays its workspace's in such a history
-  pub all_fit : (ws : List (Option Kept)) → AllByRecursion (IfThere (InOrder meta h)) (map plain_any ws) → All (FitsAny meta h) ws → All (FitsAny meta g) ws
+  pub all_fit : (ws : List (Option Kept)) → AllByRecursion (IfThere (IsOrderlyWorkspace meta h)) (map plain_any ws) → All (FitsAny meta h) ws
+      → All (FitsAny meta g) ws
   all_fit ws order fits = All-from_recursion (FitsAny meta g) ws (each_fits ws order (recursion_from_All (FitsAny meta h) ws fits))

@@ -7,27 +7,27 @@ use Rattle.footprint.specs.declared.bucket.Bucket.{Bucket}
 use Rattle.history_tree.specs.History.{History}
 use Rattle.history_tree.specs.States.{state_of}
 use Rattle.merge_plans.specs.declared.plan.Plan.{Plan}
-use Rattle.merge_laws.specs.Plans.{incoming}
+use Rattle.merge_laws.specs.Plans.{theirs_of_update}
 use Rattle.plain_repository.specs.State.{State, Workspace, folded, workspace_of}
 use Rattle.plain_repository.specs.Merging.{update_buckets, merge_buckets, merge_theirs, merge_mine}
 
 -- the places of operations have numbers of 64 bits, counted from 1 too
-abbrev pub HaveNumbers : List Bucket → Type 0
-HaveNumbers rows = All (λ b. All (λ i. i < 2 ^ 64 - 1) b.theirs × All (λ i. i < 2 ^ 64 - 1) b.mine) rows
+abbrev pub AllHaveNumbers : List Bucket → Type 0
+AllHaveNumbers rows = All (λ b. All (λ i. i < 2 ^ 64 - 1) b.theirs × All (λ i. i < 2 ^ 64 - 1) b.mine) rows
 
 -- the plan is that of an update of the workspace
 pub record IsUpdatePlan (meta : Meta) (h : History) (w : Workspace) (p : Plan) : Type 0 where
-  pub theirs : p.theirs ≡ incoming h w.branch w.base
+  pub theirs : p.theirs ≡ theirs_of_update h w.branch w.base
   pub mine : p.mine ≡ w.operations
   pub buckets : p.buckets.rows ≡ update_buckets meta h w
-  pub places : HaveNumbers p.buckets.rows
+  pub places : AllHaveNumbers p.buckets.rows
 
 -- the plan is that of a merge of the version into the workspace
 pub record IsMergePlan (meta : Meta) (h : History) (w : Workspace) (other : ℕ) (p : Plan) : Type 0 where
   pub theirs : p.theirs ≡ merge_theirs h w other
   pub mine : p.mine ≡ merge_mine meta h w other
   pub buckets : p.buckets.rows ≡ merge_buckets meta h w other
-  pub places : HaveNumbers p.buckets.rows
+  pub places : AllHaveNumbers p.buckets.rows
 
 -- the operations are these
 abbrev pub replaced : List Operation → Workspace → Workspace

@@ -6,7 +6,7 @@ ghost use Rattle.model_state.specs.Packages.{fold_package};
 ghost use Rattle.history_tree.specs.States.{state_of};
 ghost use Rattle.version_states.specs.Taking.{LedTo};
 
-use crate::merged::Updated;
+use crate::merging::Updated;
 use ecore_meta::Metamodel;
 use history_tree::History;
 use model_state::{Operation, Package};

@@ -7,15 +7,15 @@ mod following;
 mod growing;
 mod laws;
 mod making;
-mod merged;
+mod merging;
 mod planning;
 mod recent;
 mod repo;
 mod sizes;
 mod workspace;
 
-pub use fault::ReplayFault;
+pub use fault::PlayFault;
 pub use laws::law_of_counts;
-pub use merged::{Merged, Updated};
+pub use merging::{Merged, Updated};
 pub use repo::{Begun, Repo};
 pub use workspace::{Composite, Workspace};

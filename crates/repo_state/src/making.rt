@@ -9,11 +9,11 @@ ghost use Rattle.plain_repository.specs.Events.{effect, playable_with};
 ghost use Rattle.plain_repository.specs.Metamodels.{is_metamodel};
 ghost use Rattle.plain_repository.specs.State.{workspace_of};
 ghost use Rattle.version_states.specs.Cached.{MayUse, Uses};
-ghost use Rattle.repo_state.specs.Cached.{HasForms};
+ghost use Rattle.repo_state.specs.Cached.{HasEncodings};
 ghost use Rattle.repo_state.specs.Making.{LeadTo, can_take};
 ghost use Rattle.repo_state.specs.Working.{IsWorkingModel};
 
-use crate::fault::{ReplayFault, package_fault};
+use crate::fault::{PlayFault, package_fault};
 use crate::recent::to_keep;
 use crate::repo::{Begun, Repo};
 use crate::sizes::created;
@@ -30,25 +30,25 @@ use version_states::follow;
 use working_model::Working;
 
 /// The metamodel of a text.
-pub(crate) fn read_meta(alloc: Global, text: &Text) -> Result<Metamodel, ReplayFault>
+pub(crate) fn read_meta(alloc: Global, text: &Text) -> Result<Metamodel, PlayFault>
     requires short { length text.now < 2 ^ 32 - 1 }
     ensures meta { IfOk result (λ m. metamodel_of text.now ≡ Ok m) }
-    ensures cannot { IsErrOf result ReplayFault.NotPlayable → is_metamodel text.now ≡ false }
+    ensures cannot { IsErrOf result PlayFault.NotPlayable → is_metamodel text.now ≡ false }
 {
     match read_metamodel(alloc, text.as_str()) {
         Ok(meta) => Ok(meta),
-        Err(EcoreFault::Memory) => Err(ReplayFault::Memory),
-        Err(_) => Err(ReplayFault::NotPlayable),
+        Err(EcoreFault::Memory) => Err(PlayFault::Memory),
+        Err(_) => Err(PlayFault::NotPlayable),
     }
 }
 
 /// The metamodel of a text, and the history that begins with it.
-fn read_begun(alloc: Global, text: &Text) -> Result<Begun, ReplayFault>
+fn read_begun(alloc: Global, text: &Text) -> Result<Begun, PlayFault>
     requires short { length text.now < 2 ^ 32 - 1 }
     ensures meta { IfOk result (λ b. metamodel_of text.now ≡ Ok b.meta) }
     ensures history { IfOk result (λ b. b.history.history ≡ first_history) }
     ensures fresh { IfOk result (λ b. b.upgraded ≡ false) }
-    ensures cannot { IsErrOf result ReplayFault.NotPlayable → is_metamodel text.now ≡ false }
+    ensures cannot { IsErrOf result PlayFault.NotPlayable → is_metamodel text.now ≡ false }
 {
     let meta = read_meta(alloc, text)?;
     Ok(Begun {
@@ -60,16 +60,16 @@ fn read_begun(alloc: Global, text: &Text) -> Result<Begun, ReplayFault>
 
 impl Repo {
     /// Takes the metamodel of a text, where there is none yet.
-    pub fn begin(&mut self, alloc: Global, text: &Text) -> Result<(), ReplayFault>
+    pub fn begin(&mut self, alloc: Global, text: &Text) -> Result<(), PlayFault>
         requires short { length text.now < 2 ^ 32 - 1 }
         requires spelled { IsEvent (Init text.now) }
         ensures could { OnOk result (playable_with self.old self.old.meta (Init text.now) ≡ true) }
         ensures done { OnOk result (self.new ≡ effect self.old (Init text.now)) }
         ensures same { OnErr result (self.new ≡ self.old) }
-        ensures cannot { IsErrOf result ReplayFault.NotPlayable → playable_with self.old self.old.meta (Init text.now) ≡ false }
+        ensures cannot { IsErrOf result PlayFault.NotPlayable → playable_with self.old self.old.meta (Init text.now) ≡ false }
     {
         if self.begun.is_some() {
-            return Err(ReplayFault::NotPlayable);
+            return Err(PlayFault::NotPlayable);
         }
         let begun = read_begun(alloc, text)?;
         self.begun = Some(begun);
@@ -117,19 +117,19 @@ impl Repo {
         pool: &mut Pool,
         ws: u32,
         package: Package,
-    ) -> Result<(), ReplayFault>
+    ) -> Result<(), PlayFault>
         requires spelled { IsEvent (Edit ws «package») }
         requires usable { MayUse pool.old cache.old }
-        requires forms { HasForms self.old pool.old cache.old }
+        requires forms { HasEncodings self.old pool.old cache.old }
         ensures could { OnOk result (playable_with self.old self.old.meta (Edit ws «package») ≡ true) }
         ensures done { OnOk result (self.new ≡ effect self.old (Edit ws «package»)) }
         ensures same { OnErr result (self.new ≡ self.old) }
-        ensures cannot { IsErrOf result ReplayFault.NotPlayable → playable_with self.old self.old.meta (Edit ws «package») ≡ false }
+        ensures cannot { IsErrOf result PlayFault.NotPlayable → playable_with self.old self.old.meta (Edit ws «package») ≡ false }
         ensures uses { Uses pool.old pool.new cache.old cache.new }
-        ensures forms { HasForms self.old pool.new cache.new }
+        ensures forms { HasEncodings self.old pool.new cache.new }
     {
         if !self.could_take(ws, &package) {
-            return Err(ReplayFault::NotPlayable);
+            return Err(PlayFault::NotPlayable);
         }
         let mut model = self.take_model(alloc, cache, pool, ws)?;
         self.advance(ws, &mut model, &package)?;
@@ -138,12 +138,12 @@ impl Repo {
     }
 
     /// Takes the steps of operations on the working model of a workspace. After an error the model is of no use.
-    fn advance(&self, ws: u32, model: &mut Working, package: &Package) -> Result<(), ReplayFault>
+    fn advance(&self, ws: u32, model: &mut Working, package: &Package) -> Result<(), PlayFault>
         requires takes { can_take self.now.meta (workspace_of self.now ws) «package».now ≡ true }
         requires model { IsWorkingModel self.now ws model.old }
         ensures could { OnOk result (playable_with self.now self.now.meta (Edit ws «package».now) ≡ true) }
         ensures leads { OnOk result (LeadTo self.now ws «package».now model.new) }
-        ensures cannot { IsErrOf result ReplayFault.NotPlayable → playable_with self.now self.now.meta (Edit ws «package».now) ≡ false }
+        ensures cannot { IsErrOf result PlayFault.NotPlayable → playable_with self.now self.now.meta (Edit ws «package».now) ≡ false }
     {
         let Some(begun) = &self.begun else {
             unreachable!()

@@ -7,7 +7,7 @@ ghost use Rattle.plain_repository.specs.Answers.{most_events};
 ghost use Rattle.plain_repository.specs.State.{empty, workspace_of};
 ghost use Rattle.plain_repository.specs.Orderly.{IsOrderly};
 ghost use Rattle.version_states.specs.Cached.{MayUse, Uses};
-ghost use Rattle.repo_state.specs.Cached.{HasForms};
+ghost use Rattle.repo_state.specs.Cached.{HasEncodings};
 ghost use Rattle.repo_state.specs.Counting.{live_workspaces};
 ghost use Rattle.repo_state.specs.Keeping.{plain_of};
 ghost use Rattle.repo_state.specs.Working.{IsWorkingModel};
@@ -195,11 +195,11 @@ impl Repo {
     ) -> Result<Working, AllocError>
         requires there { is_some (workspace_of self.old ws) ≡ true }
         requires usable { MayUse pool.old cache.old }
-        requires forms { HasForms self.old pool.old cache.old }
+        requires forms { HasEncodings self.old pool.old cache.old }
         ensures same { self.new ≡ self.old }
         ensures model { IfOk result (λ m. IsWorkingModel self.old ws m) }
         ensures uses { Uses pool.old pool.new cache.old cache.new }
-        ensures forms { HasForms self.old pool.new cache.new }
+        ensures forms { HasEncodings self.old pool.new cache.new }
     {
         let Some(at) = self.place_of(ws) else {
             unreachable!()
@@ -223,11 +223,11 @@ impl Repo {
     ) -> Result<Working, AllocError>
         requires there { is_some (workspace_of self.old ws) ≡ true }
         requires usable { MayUse pool.old cache.old }
-        requires forms { HasForms self.old pool.old cache.old }
+        requires forms { HasEncodings self.old pool.old cache.old }
         ensures same { self.new ≡ self.old }
         ensures model { IfOk result (λ m. IsWorkingModel self.old ws m) }
         ensures uses { Uses pool.old pool.new cache.old cache.new }
-        ensures forms { HasForms self.old pool.new cache.new }
+        ensures forms { HasEncodings self.old pool.new cache.new }
     {
         self.touch(at)?;
         let model = self.model_out(alloc, cache, pool, ws)?;
@@ -245,11 +245,11 @@ impl Repo {
     ) -> Result<Working, AllocError>
         requires there { is_some (workspace_of self.old ws) ≡ true }
         requires usable { MayUse pool.old cache.old }
-        requires forms { HasForms self.old pool.old cache.old }
+        requires forms { HasEncodings self.old pool.old cache.old }
         ensures same { self.new ≡ self.old }
         ensures model { IfOk result (λ m. IsWorkingModel self.old ws m) }
         ensures uses { Uses pool.old pool.new cache.old cache.new }
-        ensures forms { HasForms self.old pool.new cache.new }
+        ensures forms { HasEncodings self.old pool.new cache.new }
     {
         let Some(at) = self.place_of(ws) else {
             unreachable!()

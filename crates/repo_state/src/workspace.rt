@@ -13,12 +13,12 @@ ghost use Rattle.plain_repository.specs.Edits.{takes, with_more};
 ghost use Rattle.plain_repository.specs.Local.{can_undo, without_any, without_last};
 ghost use Rattle.state_form.specs.Spelled.{IsSpelled};
 ghost use Rattle.state_cache.specs.Entries.{stands};
-ghost use Rattle.version_states.specs.Cached.{AreForms, MayUse, Uses};
+ghost use Rattle.version_states.specs.Cached.{AreEncodings, MayUse, Uses};
 ghost use Rattle.repo_state.specs.Keeping.{plain_of, ModelFits};
 ghost use Rattle.repo_state.specs.Planning.{replaced, restarted, taken_up};
 
 use crate::following::{model_after, model_before, model_before_one, updated_model};
-use crate::merged::{Merged, Updated};
+use crate::merging::{Merged, Updated};
 use crate::sizes::{created, deleted, deleted_by};
 use ecore_meta::{CompactList, Metamodel};
 use history_tree::{History, Signature, Version};
@@ -151,13 +151,13 @@ impl Workspace {
         requires spelled { IsSpelled meta.now (state_of meta.now history.now.history self.old.base) }
         requires fits { ModelFits meta.now history.now.history self.old }
         requires usable { MayUse pool.old cache.old }
-        requires forms { AreForms (Some meta.now) history.now.history (stands pool.old cache.old) }
+        requires forms { AreEncodings (Some meta.now) history.now.history (stands pool.old cache.old) }
         ensures same { plain_of self.new ≡ plain_of self.old }
         ensures taken { self.new.model ≡ None }
         ensures model { IfOk result (λ m. m ≡ model_of meta.now history.now.history (plain_of self.old)) }
         ensures good { IfOk result (λ m. Good meta.now m) }
         ensures uses { Uses pool.old pool.new cache.old cache.new }
-        ensures forms { AreForms (Some meta.now) history.now.history (stands pool.new cache.new) }
+        ensures forms { AreEncodings (Some meta.now) history.now.history (stands pool.new cache.new) }
     {
         match self.model.take() {
             Some(model) => Ok(model),
@@ -447,11 +447,11 @@ impl Workspace {
         requires leads { is_some (folded meta.now history.now.history (plain_of self.now)) ≡ true }
         requires spelled { IsSpelled meta.now (state_of meta.now history.now.history self.now.base) }
         requires usable { MayUse pool.old cache.old }
-        requires forms { AreForms (Some meta.now) history.now.history (stands pool.old cache.old) }
+        requires forms { AreEncodings (Some meta.now) history.now.history (stands pool.old cache.old) }
         ensures model { IfOk result (λ m. m ≡ model_of meta.now history.now.history (plain_of self.now)) }
         ensures good { IfOk result (λ m. Good meta.now m) }
         ensures uses { Uses pool.old pool.new cache.old cache.new }
-        ensures forms { AreForms (Some meta.now) history.now.history (stands pool.new cache.new) }
+        ensures forms { AreEncodings (Some meta.now) history.now.history (stands pool.new cache.new) }
     {
         meta.recall_soundness();
         let mut model = state_at(alloc, cache, pool, meta, history, self.base)?;

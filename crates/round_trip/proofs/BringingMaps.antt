@@ -14,7 +14,7 @@ use Rattle.model_state.proofs.Orders.{attr_order, id_order}
 use Rattle.model_documents.specs.declared.doc.DocAttr.{DocAttr}
 use Rattle.model_documents.specs.declared.doc.DocRow.{DocRow}
 use Rattle.model_documents.specs.Fits.{numbers_differ}
-use Rattle.model_documents.specs.Merged.{attr_at}
+use Rattle.model_documents.specs.Completed.{attr_at}
 use Rattle.import_laws.specs.After.{Attrs, Kinds, Places, attrs_from, attrs_set, kinds_from, places_from}
 use Rattle.import_laws.specs.Names.{name_at}
 use Rattle.import_laws.specs.News.{place_of}

@@ -19,7 +19,7 @@ use Rattle.model_documents.specs.declared.doc.DocRefs.{DocRefs}
 use Rattle.model_documents.specs.declared.doc.DocRow.{DocRow}
 use Rattle.model_documents.specs.Fits as fits
 use Rattle.model_documents.specs.Fits.{DocumentFits}
-use Rattle.model_documents.specs.Merged.{targets_at}
+use Rattle.model_documents.specs.Completed.{targets_at}
 use Rattle.model_texts.specs.Tree.{entry_ids, target_ids}
 use Rattle.import_laws.specs.After.{rows_from}
 use Rattle.import_laws.specs.Laws.{ids_differ}

@@ -14,8 +14,8 @@ abbrev pub taken_by : {A B : Type 0} → (A → B) → Type 0
 taken_by {A} {B} f = A
 
 -- an element as the walk finds it
-abbrev pub Draft : Type 0
-Draft = item_of no_part.rows
+abbrev pub ElementDraft : Type 0
+ElementDraft = item_of no_part.rows
 
 -- the links of a reference as the walk finds them
 abbrev pub Links : Type 0

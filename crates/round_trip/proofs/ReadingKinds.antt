@@ -17,7 +17,7 @@ use Rattle.model_state.specs.declared.step.Place.TheVariants.{Inside}
 use Rattle.model_state.specs.Keys.{IdBytes}
 use Rattle.model_state.specs.State.{State}
 use Rattle.model_state.specs.Typing.{is_default}
-use Rattle.emfjson_io.specs.Values.{data_of}
+use Rattle.emfjson_values.specs.Values.{data_of}
 use Rattle.model_documents.specs.declared.doc.DocParent.{DocParent}
 use Rattle.model_documents.specs.declared.fault.ModelFault.TheVariants.{BadValue, Bound, WrongType}
 use Rattle.finite_maps.specs.Maps.{is_within}
@@ -29,7 +29,7 @@ use Rattle.model_documents.proofs.Features.{single_set, many_read}
 use Rattle.model_state.specs.Listing.{values_at}
 use Rattle.model_texts.specs.Tree.{child_ids, content, first_value, is_single, listed, one_or_all, reference, target_ids}
 use Rattle.ecore_meta.specs.Named.{IsNamed}
-use Rattle.round_trip.proofs.KeysTypes.{Draft}
+use Rattle.round_trip.proofs.KeysTypes.{ElementDraft}
 use Rattle.round_trip.proofs.ReadingTrees.{AreOk, all_from}
 use Rattle.round_trip.proofs.WalksRows.{Come, forest, kind_attrs, kind_links, kind_rows, set_attr, set_links}
 use Rattle.round_trip.proofs.WalksSteps.{Walked, items_walk}
@@ -71,7 +71,8 @@ held_object meta ids p target d o within =
     subst (λ x. held_rows meta ids p target x ≡ element_rows meta ids (Some p) (Some target) x) (sym o.1)
     (ap (λ b. unless b Bound (element_rows meta ids (Some p) (Some target) (object o.0))) within)
 
-module _ (meta : Meta) (below : ℕ → Option DocParent → IdBytes → List Draft) (whole : IdBytes → Data) (objects : (c : IdBytes) → IsObject (whole c)) where
+module _ (meta : Meta) (below : ℕ → Option DocParent → IdBytes → List ElementDraft) (whole : IdBytes → Data)
+    (objects : (c : IdBytes) → IsObject (whole c)) where
   alone : (k : ℕ) (parent : Option DocParent) (c : IdBytes) → below k parent c ≡ forest below k parent (c ∷ [])
   alone k parent c = sym (append-nil (below k parent c))
 
@@ -97,7 +98,7 @@ module _ (meta : Meta) (below : ℕ → Option DocParent → IdBytes → List Dr
       (subst (λ zs. Come zs (ids_of (forest below (length ids) (Some p) (c ∷ cs)))) (sym (append-nil ids)) come)
 
 -- ---- each kind of feature
-module _ (meta : Meta) (named : IsNamed meta) (m : State) (below : ℕ → Option DocParent → IdBytes → List Draft) (whole : IdBytes → Data)
+module _ (meta : Meta) (named : IsNamed meta) (m : State) (below : ℕ → Option DocParent → IdBytes → List ElementDraft) (whole : IdBytes → Data)
     (objects : (c : IdBytes) → IsObject (whole c)) (own : ℕ) (e : IdBytes) (f : ℕ) where
   -- the parent of the elements in the feature
   abbrev here : DocParent

@@ -17,7 +17,7 @@ use Rattle.model_state.specs.State.{State}
 use Rattle.model_state.specs.Steps.{may_link}
 use Rattle.model_state.specs.Typing.{is_plain}
 use Rattle.edit_steps.proofs.Lists.{targets_held}
-use Rattle.model_documents.specs.Merged.{targets_at}
+use Rattle.model_documents.specs.Completed.{targets_at}
 use Rattle.model_documents.specs.Reads.{Read, «then», collected}
 use Rattle.model_documents.specs.References.{entries_at, plain_features}
 use Rattle.model_texts.specs.Keys.{key_number, keys_of}

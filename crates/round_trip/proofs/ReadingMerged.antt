@@ -24,14 +24,14 @@ use Rattle.model_documents.specs.declared.doc.DocRefs.{DocRefs}
 use Rattle.model_documents.specs.declared.doc.DocRow.{DocRow}
 use Rattle.model_documents.specs.declared.fault.ModelFault.TheVariants.{Bound}
 use Rattle.model_documents.specs.Document.{resolved}
-use Rattle.model_documents.specs.Merged.{given_at, merged, merged_all, merged_at, naming, next_row, others, row_of, rows_by, targets_at}
+use Rattle.model_documents.specs.Completed.{given_at, completed, completed_all, completed_at, naming, next_row, others, row_of, rows_by, targets_at}
 use Rattle.model_documents.specs.Parts.{ids_of}
 use Rattle.model_documents.specs.Reads.{Read, «then», unless, collected}
 use Rattle.model_documents.specs.References.{given_by, plain_features, refs_at, refs_of, targets_of}
 use Rattle.model_texts.specs.Tree.{target_ids}
 use Rattle.round_trip.proofs.KeysFound.{Stands, all_stand}
 use Rattle.round_trip.proofs.KeysPairs.{Pairs}
-use Rattle.round_trip.proofs.KeysTypes.{Draft}
+use Rattle.round_trip.proofs.KeysTypes.{ElementDraft}
 use Rattle.round_trip.proofs.ReadingLinks.{IsLink, collected_map, entries_told, plain_all, targets_at_map, targets_held_by, targets_linked}
 use Rattle.round_trip.proofs.ReadingSpots.{IsReady, place_stands, spot, spot_at, spot_same, targets_read}
 use Rattle.round_trip.proofs.ReadingTrees.{all_of, all_so}
@@ -54,7 +54,7 @@ all_map P h (x ∷ xs) all = (all.0, all_map P h xs all.1)
 
 module _ (meta : Meta) (m : State) (good : Good meta m) (forms : (e : IdBytes) → is_live m e ≡ true → is_id e ≡ true) (names : List IdBytes)
     (apart : Pairs Differ names) (covered : (x : IdBytes) (c : ℕ) → get m.kind x ≡ Some c → Stands x names)
-    (rows : List Draft) (ids : ids_of rows ≡ map (λ x. Some x) names) (all : AllByRecursion (RowOk meta m names) rows) where
+    (rows : List ElementDraft) (ids : ids_of rows ≡ map (λ x. Some x) names) (all : AllByRecursion (RowOk meta m names) rows) where
   -- the targets of a reference, by number
   abbrev spots : IdBytes → ℕ → List ℕ
   spots e f = map (spot names) (target_ids m e f)
@@ -68,11 +68,11 @@ module _ (meta : Meta) (m : State) (good : Good meta m) (forms : (e : IdBytes) �
   refs_told e = map (list_told e) (plain_features meta (features_of meta (class_at meta m e)))
 
   -- what the element of a row gives
-  abbrev pub refs_of_row : Draft → List DocRefs
+  abbrev pub refs_of_row : ElementDraft → List DocRefs
   refs_of_row r = refs_told (unwrap_or r.id [])
 
   -- the row of a document
-  abbrev pub final : Draft → DocRow
+  abbrev pub final : ElementDraft → DocRow
   final r = row_of meta r (refs_of_row r)
 
   -- ---- what the elements give
@@ -86,7 +86,7 @@ module _ (meta : Meta) (m : State) (good : Good meta m) (forms : (e : IdBytes) �
   targets_differ : (a : IdBytes) (f : ℕ) → Pairs Differ (target_ids m a f)
   targets_differ a f = entries_apart (targets m.row a f) (targets_apart m.row a f)
 
-  refs_ok : (r : Draft) (e : IdBytes) → IsRow meta m names r e → (before : List (List DocRefs)) → refs_of meta rows before r ≡ Ok (refs_of_row r)
+  refs_ok : (r : ElementDraft) (e : IdBytes) → IsRow meta m names r e → (before : List (List DocRefs)) → refs_of meta rows before r ≡ Ok (refs_of_row r)
   refs_ok r e row before =
       subst (λ q. refs_of meta rows before q ≡ Ok (refs_of_row q)) (sym row.is)
       (collected_map (refs_at meta rows (own_row meta m row.parent e).links) (list_told e) [] (plain_features meta (features_of meta (class_at meta m e)))
@@ -152,7 +152,7 @@ module _ (meta : Meta) (m : State) (good : Good meta m) (forms : (e : IdBytes) �
           let back : is_some (get m.row (e, f, x)) ≡ true = good.rows.mirrored e f x g opposite ∙ link.row in
           ap not (spot_any x (target_ids m e f) (row_target e f x (get m.row (e, f, x)) refl back))
 
-  naming_none : (e : IdBytes) (f g : ℕ) → opposite_of meta f ≡ Some g → Stands e names → (qs : List Draft) (xs : List IdBytes) (n : ℕ)
+  naming_none : (e : IdBytes) (f g : ℕ) → opposite_of meta f ≡ Some g → Stands e names → (qs : List ElementDraft) (xs : List IdBytes) (n : ℕ)
       → ids_of qs ≡ map (λ x. Some x) xs → ((i : ℕ) (x : IdBytes) → slice_get xs i ≡ Some x → spot names x ≡ n + i)
       → naming g (spot names e) (spots e f) n (map refs_of_row qs) ≡ []
   naming_none e f g opposite s [] xs n is at = refl
@@ -185,7 +185,7 @@ module _ (meta : Meta) (m : State) (good : Good meta m) (forms : (e : IdBytes) �
       none : (i : ℕ) → i ≡ 0 + i
       none i = omega arith
 
-  merged_same : (e : IdBytes) (f : ℕ) → Stands e names → merged meta given (spot names e) (list_told e f) ≡ spots e f
+  merged_same : (e : IdBytes) (f : ℕ) → Stands e names → completed meta given (spot names e) (list_told e f) ≡ spots e f
   merged_same e f s = ap (λ xs. spots e f ++ xs) (no_others e f s (opposite_of meta f) refl) ∙ append-nil (spots e f)
 
   spots_within : (e : IdBytes) (f : ℕ) → is_within (length (spots e f)) (row_upper meta f) ≡ true
@@ -193,29 +193,29 @@ module _ (meta : Meta) (m : State) (good : Good meta m) (forms : (e : IdBytes) �
       subst (λ n. is_within n (row_upper meta f) ≡ true) (sym (length-map (target_ids m e f) (spot names) ∙ target_count m e f)) (good.rows.bound e f)
 
   merged_list : (e : IdBytes) (f : ℕ) → Stands e names → (before : List DocRefs)
-      → merged_at meta given (spot names e) before (list_told e f) ≡ Ok (list_told e f)
+      → completed_at meta given (spot names e) before (list_told e f) ≡ Ok (list_told e f)
   merged_list e f s before =
       ap (λ ts. «then» (unless (is_within (length ts) (row_upper meta f)) Bound (Ok ts)) (λ ts. Ok (record { feature = f; targets = ts }))) (merged_same e f s)
       ∙ ap (λ b. «then» (unless b Bound (Ok (spots e f))) (λ ts. Ok (record { feature = f; targets = ts }))) (spots_within e f)
 
-  merged_ok : (e : IdBytes) → Stands e names → merged_all meta given (spot names e) (refs_told e) ≡ Ok (refs_told e)
+  merged_ok : (e : IdBytes) → Stands e names → completed_all meta given (spot names e) (refs_told e) ≡ Ok (refs_told e)
   merged_ok e s =
       let fs = plain_features meta (features_of meta (class_at meta m e)) in
-      collected_same (merged_at meta given (spot names e)) [] (refs_told e)
-      (all_map (λ r. (bs : List DocRefs) → merged_at meta given (spot names e) bs r ≡ Ok r) (list_told e) fs
-      (all_of (λ f. (bs : List DocRefs) → merged_at meta given (spot names e) bs (list_told e f) ≡ Ok (list_told e f))
+      collected_same (completed_at meta given (spot names e)) [] (refs_told e)
+      (all_map (λ r. (bs : List DocRefs) → completed_at meta given (spot names e) bs r ≡ Ok r) (list_told e) fs
+      (all_of (λ f. (bs : List DocRefs) → completed_at meta given (spot names e) bs (list_told e f) ≡ Ok (list_told e f))
       (λ f bs. merged_list e f s bs) fs))
 
   -- ---- the rows
-  abbrev NextOk : ℕ → Draft → Type 0
-  NextOk n r = merged_all meta given n (given_at given n) ≡ Ok (refs_of_row r)
+  abbrev NextOk : ℕ → ElementDraft → Type 0
+  NextOk n r = completed_all meta given n (given_at given n) ≡ Ok (refs_of_row r)
 
-  rows_walk : (qs : List Draft) (done : List DocRow) → ((i : ℕ) (r : Draft) → slice_get qs i ≡ Some r → NextOk (length done + i) r)
+  rows_walk : (qs : List ElementDraft) (done : List DocRow) → ((i : ℕ) (r : ElementDraft) → slice_get qs i ≡ Some r → NextOk (length done + i) r)
       → collected (next_row meta given) done qs ≡ Ok (done ++ map final qs)
   rows_walk [] done next = ap (λ xs. Ok xs) (sym (append-nil done))
   rows_walk (r ∷ qs) done next =
       ap (λ x. «then» («then» x (λ refs. Ok (row_of meta r refs))) (λ b. collected (next_row meta given) (done ++ b ∷ []) qs))
-      (ap (λ n. merged_all meta given n (given_at given n)) (sym (none (length done))) ∙ next 0 r refl)
+      (ap (λ n. completed_all meta given n (given_at given n)) (sym (none (length done))) ∙ next 0 r refl)
       ∙ rows_walk qs (done ++ final r ∷ [])
       (λ i q there. subst (λ n. NextOk n q) (later (length done) i ∙ ap (λ n. n + i) (sym (length-append done (final r ∷ []))))
       (next (suc i) q there))
@@ -227,21 +227,21 @@ module _ (meta : Meta) (m : State) (good : Good meta m) (forms : (e : IdBytes) �
       later : (n i : ℕ) → n + suc i ≡ (n + 1) + i
       later n i = omega arith
 
-  ids_at : (qs : List Draft) (xs : List IdBytes) (n : ℕ) (r : Draft) → ids_of qs ≡ map (λ x. Some x) xs → slice_get qs n ≡ Some r
+  ids_at : (qs : List ElementDraft) (xs : List IdBytes) (n : ℕ) (r : ElementDraft) → ids_of qs ≡ map (λ x. Some x) xs → slice_get qs n ≡ Some r
       → (x : IdBytes) × (r.id ≡ Some x) × (slice_get xs n ≡ Some x)
   ids_at [] xs n r is at = cc
   ids_at (q ∷ qs) [] n r is at = cc
-  ids_at (q ∷ qs) (x ∷ xs) zero r is at = let head : q.id ≡ Some x = cc in let same : q ≡ r = cc in (x, ap (λ (z : Draft). z.id) (sym same) ∙ head, refl)
+  ids_at (q ∷ qs) (x ∷ xs) zero r is at = let head : q.id ≡ Some x = cc in let same : q ≡ r = cc in (x, ap (λ (z : ElementDraft). z.id) (sym same) ∙ head, refl)
   ids_at (q ∷ qs) (x ∷ xs) (suc n) r is at = let tail : ids_of qs ≡ map (λ x. Some x) xs = cc in ids_at qs xs n r tail at
 
-  next_ok : (n : ℕ) (r : Draft) → slice_get rows n ≡ Some r → NextOk n r
+  next_ok : (n : ℕ) (r : ElementDraft) → slice_get rows n ≡ Some r → NextOk n r
   next_ok n r at =
       let x = ids_at rows names n r ids at in
       let own : refs_of_row r ≡ refs_told x.0 = ap (λ o. refs_told (unwrap_or o [])) x.1 in
       let here : given_at given n ≡ refs_told x.0 =
       ap (λ o. option_map_or (λ refs. refs) o []) (slice_get-map refs_of_row rows n ∙ ap (option_map refs_of_row) at) ∙ own in
       let spot_is : spot names x.0 ≡ n = spot_at names n x.0 apart x.2 in
-      ap (merged_all meta given n) here ∙ ap (λ k. merged_all meta given k (refs_told x.0)) (sym spot_is)
+      ap (completed_all meta given n) here ∙ ap (λ k. completed_all meta given k (refs_told x.0)) (sym spot_is)
       ∙ merged_ok x.0 (place_stands names n x.0 x.2) ∙ ap (λ xs. Ok xs) (sym own)
 
   -- the rows of the document

@@ -20,8 +20,8 @@ use Rattle.ecore_meta.specs.declared.meta.Value.TheVariants.{Text, Flag, Whole, 
 use Rattle.model_state.specs.Good.{is_distinct}
 use Rattle.model_state.specs.Typing.{value_eq}
 use Rattle.model_state.proofs.StepTests.{value_equality}
-use Rattle.emfjson_io.specs.Values.{data_of, value_in}
-use Rattle.emfjson_io.proofs.Again.{written_read}
+use Rattle.emfjson_values.specs.Values.{data_of, value_in}
+use Rattle.emfjson_values.proofs.Again.{written_read}
 use Rattle.model_documents.specs.declared.fault.ModelFault.TheVariants.{BadValue}
 use Rattle.finite_maps.specs.Maps.{is_within}
 use Rattle.model_documents.specs.Attributes.{is_null, new_value, next_value}

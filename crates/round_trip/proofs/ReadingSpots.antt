@@ -21,7 +21,7 @@ use Rattle.model_documents.specs.References.{bare, located, located_bare, locate
 use Rattle.model_documents.specs.Places.{class_at, has_id, named, numbers_where}
 use Rattle.round_trip.proofs.KeysFound.{Stands, all_stand}
 use Rattle.round_trip.proofs.KeysPairs.{Pairs}
-use Rattle.round_trip.proofs.KeysTypes.{Draft}
+use Rattle.round_trip.proofs.KeysTypes.{ElementDraft}
 use Rattle.round_trip.proofs.WalksApart.{Differ}
 use Rattle.round_trip.proofs.WalksPlaces.{IsRow, RowOk}
 use Rattle.round_trip.proofs.WalksRows as walks
@@ -57,7 +57,7 @@ pub spot_same : (a b : IdBytes) (xs : List IdBytes) → Stands a xs → Stands b
 spot_same a b xs s t is = let same : Some a ≡ Some b = sym (spot_there a xs s) ∙ ap (slice_get xs) is ∙ spot_there b xs t in cc
 
 -- ---- by its id
-named_from : (b : IdBytes) (rows : List Draft) (xs : List IdBytes) (n : ℕ) → ids_of rows ≡ map (λ x. Some x) xs → Stands b xs
+named_from : (b : IdBytes) (rows : List ElementDraft) (xs : List IdBytes) (n : ℕ) → ids_of rows ≡ map (λ x. Some x) xs → Stands b xs
     → slice_get (numbers_where (has_id b) n rows) 0 ≡ Some (n + spot xs b)
 named_from b rows [] n ids h = absurd h
 named_from b [] (x ∷ xs) n ids h = cc
@@ -93,31 +93,31 @@ no_slash b h x xs is = not_true (x == 47) (and_first (not (x == 47)) (not (x == 
 no_sign : (b : IdBytes) → begins_as_id b ≡ true → (x : ℕ) (xs : IdBytes) → b ≡ x ∷ xs → (x == 35) ≡ false
 no_sign b h x xs is = not_true (x == 35) (and_second (not (x == 47)) (not (x == 35)) (subst (λ z. begins_as_id z ≡ true) is h))
 
-located_id : (meta : Meta) (rows : List Draft) (b : IdBytes) → is_id b ≡ true → located meta rows b ≡ named rows b
+located_id : (meta : Meta) (rows : List ElementDraft) (b : IdBytes) → is_id b ≡ true → located meta rows b ≡ named rows b
 located_id meta rows b h =
     let begins = and_second (nat_le 1 (length b) && nat_le (length b) 128 && list_all is_id_byte b) (begins_as_id b) h in
     ap (λ o. located_bare meta rows (bare b o)) (not_behind 35 b (no_sign b begins)) ∙ ap (located_by meta rows b) (not_behind 47 b (no_slash b begins))
 
 -- ---- the row of that id
-pub row_at : (meta : Meta) (m : State) (names : List IdBytes) (rows : List Draft) (xs : List IdBytes) (n : ℕ) (b : IdBytes)
+pub row_at : (meta : Meta) (m : State) (names : List IdBytes) (rows : List ElementDraft) (xs : List IdBytes) (n : ℕ) (b : IdBytes)
     → ids_of rows ≡ map (λ x. Some x) xs → AllByRecursion (RowOk meta m names) rows → slice_get xs n ≡ Some b
-    → (r : Draft) × (slice_get rows n ≡ Some r) × IsRow meta m names r b
+    → (r : ElementDraft) × (slice_get rows n ≡ Some r) × IsRow meta m names r b
 row_at meta m names rows [] n b ids all at = cc
 row_at meta m names [] (x ∷ xs) n b ids all at = cc
 row_at meta m names (r ∷ rows) (x ∷ xs) zero b ids all at =
-    let own : Some all.0.0 ≡ r.id = sym (ap (λ (q : Draft). q.id) all.0.1.is) in
+    let own : Some all.0.0 ≡ r.id = sym (ap (λ (q : ElementDraft). q.id) all.0.1.is) in
     let head : r.id ≡ Some x = cc in
     let same : all.0.0 ≡ b = cc in
     (r, refl, subst (IsRow meta m names r) same all.0.1)
 row_at meta m names (r ∷ rows) (x ∷ xs) (suc n) b ids all at = let tail : ids_of rows ≡ map (λ x. Some x) xs = cc
     in row_at meta m names rows xs n b tail all.1 at
 
-module _ (meta : Meta) (m : State) (names : List IdBytes) (rows : List Draft) (ids : ids_of rows ≡ map (λ x. Some x) names)
+module _ (meta : Meta) (m : State) (names : List IdBytes) (rows : List ElementDraft) (ids : ids_of rows ≡ map (λ x. Some x) names)
     (all : AllByRecursion (RowOk meta m names) rows) where
   pub class_there : (b : IdBytes) → Stands b names → class_at rows (spot names b) ≡ walks.class_at meta m b
   class_there b s =
       let r = row_at meta m names rows names (spot names b) b ids all (spot_there b names s) in
-      ap (λ o. option_map_or (λ (q : Draft). q.class) o 0) r.1 ∙ ap (λ (q : Draft). q.class) r.2.is
+      ap (λ o. option_map_or (λ (q : ElementDraft). q.class) o 0) r.1 ∙ ap (λ (q : ElementDraft). q.class) r.2.is
 
   -- a target that is read: an element of the model, with an id, of the feature's type
   pub record IsReady (f : ℕ) (b : IdBytes) : Type 0 where

@@ -28,7 +28,7 @@ use Rattle.ecore_meta.specs.Promised.{IsMetamodel}
 use Rattle.round_trip.specs.Describes.{Describes, DescribesElement, standing_in}
 use Rattle.round_trip.proofs.KeysFound.{Stands}
 use Rattle.round_trip.proofs.KeysPairs.{Pairs}
-use Rattle.round_trip.proofs.KeysTypes.{Draft}
+use Rattle.round_trip.proofs.KeysTypes.{ElementDraft}
 use Rattle.round_trip.proofs.ReadingLinks.{IsLink, targets_linked}
 use Rattle.round_trip.proofs.ReadingMerged.{final, resolved_ok, told_at}
 use Rattle.round_trip.proofs.ReadingSpots.{row_at, spot, spot_there}
@@ -45,9 +45,9 @@ use Rattle.round_trip.proofs.WalksWhole.{listed_depths}
 
 module _ (meta : Meta) (m : State) (good : Good meta m) (forms : (e : IdBytes) → is_live m e ≡ true → is_id e ≡ true) (names : List IdBytes)
     (apart : Pairs Differ names) (covered : (x : IdBytes) (c : ℕ) → get m.kind x ≡ Some c → Stands x names)
-    (rows : List Draft) (ids : ids_of rows ≡ map (λ x. Some x) names) (all : AllByRecursion (RowOk meta m names) rows) where
+    (rows : List ElementDraft) (ids : ids_of rows ≡ map (λ x. Some x) names) (all : AllByRecursion (RowOk meta m names) rows) where
   -- the row of a document
-  abbrev shown : Draft → DocRow
+  abbrev shown : ElementDraft → DocRow
   shown = final meta m good forms names apart covered rows ids all
 
   -- ---- each element
@@ -60,7 +60,7 @@ module _ (meta : Meta) (m : State) (good : Good meta m) (forms : (e : IdBytes) �
       (all_so (IsLink meta m e f) (λ b. Stands b names) (λ b link. covered b (class_at meta m b) link.target) (target_ids m e f)
       (targets_linked meta m good e f))
 
-  element_told : (r : Draft) (e : IdBytes) → IsRow meta m names r e → DescribesElement m names e (shown r)
+  element_told : (r : ElementDraft) (e : IdBytes) → IsRow meta m names r e → DescribesElement m names e (shown r)
   element_told r e row =
       subst (λ q. DescribesElement m names e (shown q)) (sym row.is) (record {
         id = refl;
@@ -80,7 +80,7 @@ module _ (meta : Meta) (m : State) (good : Good meta m) (forms : (e : IdBytes) �
       some_same x y h = cc
 
   -- ---- each list
-  standing_kept : (p : Place) (qs : List Draft) (xs : List IdBytes) (n : ℕ) → ids_of qs ≡ map (λ x. Some x) xs
+  standing_kept : (p : Place) (qs : List ElementDraft) (xs : List IdBytes) (n : ℕ) → ids_of qs ≡ map (λ x. Some x) xs
       → AllByRecursion (RowOk meta m names) qs → ((i : ℕ) (x : IdBytes) → slice_get xs i ≡ Some x → slice_get names (n + i) ≡ Some x)
       → standing_in names p n (map shown qs) ≡ kept m p xs
   standing_kept p [] [] n is ok at = refl
@@ -88,11 +88,11 @@ module _ (meta : Meta) (m : State) (good : Good meta m) (forms : (e : IdBytes) �
   standing_kept p (q ∷ qs) [] n is ok at = cc
   standing_kept p (q ∷ qs) (x ∷ xs) n is ok at =
       let row = ok.0.1 in
-      let own : q.id ≡ Some ok.0.0 = ap (λ (r : Draft). r.id) row.is in
+      let own : q.id ≡ Some ok.0.0 = ap (λ (r : ElementDraft). r.id) row.is in
       let head : q.id ≡ Some x = cc in
       let tail : ids_of qs ≡ map (λ x. Some x) xs = cc in
       let same : ok.0.0 ≡ x = cc in
-      let parent : q.parent ≡ row.parent = ap (λ (r : Draft). r.parent) row.is in
+      let parent : q.parent ≡ row.parent = ap (λ (r : ElementDraft). r.parent) row.is in
       let placed : get m.place x ≡ Some (place_of names q.parent) = ap (get m.place) (sym same) ∙ row.place ∙ ap (λ o. Some (place_of names o)) (sym parent) in
       let here : name_at names n ≡ x = ap (λ k. unwrap_or (slice_get names k) []) (sym (none n)) ∙ ap (λ o. unwrap_or o []) (at 0 x refl) in
       let rest = standing_kept p qs xs (suc n) tail ok.1 (λ i y there. ap (slice_get names) (later n i) ∙ at (suc i) y there) in
@@ -107,7 +107,7 @@ module _ (meta : Meta) (m : State) (good : Good meta m) (forms : (e : IdBytes) �
       later n i = omega arith
 
   as_many : length names ≡ length (map shown rows)
-  as_many = sym (length-map names (λ x. Some x)) ∙ ap length (sym ids) ∙ length-map rows (λ (r : Draft). r.id) ∙ sym (length-map rows shown)
+  as_many = sym (length-map names (λ x. Some x)) ∙ ap length (sym ids) ∙ length-map rows (λ (r : ElementDraft). r.id) ∙ sym (length-map rows shown)
 
   pub model_told : ((p : Place) → kept m p names ≡ child_ids m p) → Describes m names (map shown rows)
   model_told lists = record {

@@ -24,7 +24,7 @@ use Rattle.model_state.specs.declared.step.Place.TheVariants.{Root, Inside}
 use Rattle.model_state.specs.Good.{AttrOk, Good, ValuesOk}
 use Rattle.model_state.specs.Keys.{IdBytes}
 use Rattle.model_state.specs.State.{State}
-use Rattle.emfjson_io.specs.Values.{data_of}
+use Rattle.emfjson_values.specs.Values.{data_of}
 use Rattle.edit_steps.proofs.Lists.{all-in_order}
 use Rattle.model_texts.specs.Keys.{key_name, keys_of}
 use Rattle.model_state.specs.Listing.{values_at}

@@ -15,7 +15,7 @@ use Rattle.model_state.specs.Good.{AttrOk, Good, ValuesOk}
 use Rattle.model_state.specs.Keys.{IdBytes}
 use Rattle.model_state.specs.State.{State}
 use Rattle.model_documents.specs.declared.doc.DocAttr.{DocAttr}
-use Rattle.model_documents.specs.Merged.{attr_at, attrs_by}
+use Rattle.model_documents.specs.Completed.{attr_at, attrs_by}
 use Rattle.model_documents.proofs.SetAttrs.{by_keeps}
 use Rattle.model_texts.specs.Keys.{key_number, keys_of}
 use Rattle.model_state.specs.Listing.{values_at}

@@ -16,7 +16,7 @@ use Rattle.model_documents.proofs.IdLists.{ids_append}
 use Rattle.model_texts.specs.Keys.{key_number, keys_of}
 use Rattle.model_texts.specs.Tree.{child_ids}
 use Rattle.round_trip.proofs.KeysPairs.{Pairs}
-use Rattle.round_trip.proofs.KeysTypes.{Draft, Key}
+use Rattle.round_trip.proofs.KeysTypes.{ElementDraft, Key}
 use Rattle.round_trip.proofs.WalksRows.{by_number, class_at, forest, kind_rows, key_rows, keys_rows, tree_rows}
 
 -- ---- lists one after another
@@ -90,10 +90,10 @@ abbrev some : IdBytes → Option IdBytes
 some x = Some x
 
 -- rows that have the names, wherever they stand
-abbrev Names : (ℕ → Option DocParent → IdBytes → List Draft) → (IdBytes → List IdBytes) → Type 0
+abbrev Names : (ℕ → Option DocParent → IdBytes → List ElementDraft) → (IdBytes → List IdBytes) → Type 0
 Names rows names = (k : ℕ) (parent : Option DocParent) (e : IdBytes) → ids_of (rows k parent e) ≡ map some (names e)
 
-pub forest_names : (rows : ℕ → Option DocParent → IdBytes → List Draft) (names : IdBytes → List IdBytes) → Names rows names
+pub forest_names : (rows : ℕ → Option DocParent → IdBytes → List ElementDraft) (names : IdBytes → List IdBytes) → Names rows names
     → (k : ℕ) (parent : Option DocParent) (cs : List IdBytes) → ids_of (forest rows k parent cs) ≡ map some (flat names cs)
 forest_names rows names h k parent [] = refl
 forest_names rows names h k parent (c ∷ cs) =
@@ -101,7 +101,7 @@ forest_names rows names h k parent (c ∷ cs) =
     ∙ ap₂ (λ xs ys. xs ++ ys) (h k parent c) (forest_names rows names h (k + length (rows k parent c)) parent cs)
     ∙ sym (map-append some (names c) (flat names cs))
 
-module _ (meta : Meta) (m : State) (rows : ℕ → Option DocParent → IdBytes → List Draft) (names : IdBytes → List IdBytes) (h : Names rows names)
+module _ (meta : Meta) (m : State) (rows : ℕ → Option DocParent → IdBytes → List ElementDraft) (names : IdBytes → List IdBytes) (h : Names rows names)
     (own : ℕ) (e : IdBytes) where
   kind_named : (f k : ℕ) (kind : Kind) → ids_of (kind_rows m e f rows own k kind) ≡ map some (kind_names m names e f kind)
   kind_named f k (Attr scalar default) = refl

@@ -18,7 +18,7 @@ use Rattle.model_documents.specs.declared.doc.DocParent.{DocParent}
 use Rattle.model_texts.specs.Keys.{key_number, keys_of}
 use Rattle.model_texts.specs.Tree.{child_ids}
 use Rattle.model_texts.proofs.Children.{each_child}
-use Rattle.round_trip.proofs.KeysTypes.{Draft, Key}
+use Rattle.round_trip.proofs.KeysTypes.{ElementDraft, Key}
 use Rattle.round_trip.proofs.ReadingTrees.{all_so}
 use Rattle.round_trip.proofs.WalksNames.{all_append, flat, key_names, kind_names, tree_named, tree_names}
 use Rattle.round_trip.proofs.WalksRows.{by_number, class_at, forest, key_rows, keys_rows, kind_rows, own_row, tree_rows}
@@ -56,14 +56,14 @@ module _ (names : List IdBytes) where
 
 module _ (meta : Meta) (m : State) (names : List IdBytes) where
   -- a row of a live element, with its place
-  pub record IsRow (r : Draft) (e : IdBytes) : Type 0 where
+  pub record IsRow (r : ElementDraft) (e : IdBytes) : Type 0 where
     pub parent : Option DocParent
     pub is : r ≡ own_row meta m parent e
     pub class : get m.kind e ≡ Some (class_at meta m e)
     pub place : get m.place e ≡ Some (place_of names parent)
 
   -- a row of some element
-  abbrev pub RowOk : Draft → Type 0
+  abbrev pub RowOk : ElementDraft → Type 0
   RowOk r = (e : IdBytes) × IsRow r e
 
 module _ (meta : Meta) (m : State) (good : Good meta m) (names : List IdBytes) where
@@ -74,7 +74,7 @@ module _ (meta : Meta) (m : State) (good : Good meta m) (names : List IdBytes) w
 
   rows_many : (n k : ℕ) (parent : Option DocParent) (e : IdBytes) → length (tree_rows meta m n k parent e) ≡ length (tree_names meta m n e)
   rows_many n k parent e =
-      sym (length-map (tree_rows meta m n k parent e) (λ (r : Draft). r.id)) ∙ ap length (tree_named meta m n k parent e)
+      sym (length-map (tree_rows meta m n k parent e) (λ (r : ElementDraft). r.id)) ∙ ap length (tree_named meta m n k parent e)
       ∙ length-map (tree_names meta m n e) (λ x. Some x)
 
   module _ (n : ℕ) (rows_ok : RowsOk n) where

@@ -18,14 +18,15 @@ use Rattle.model_texts.specs.Tree.{child_ids, listed, one_or_list, tree, whole}
 use Rattle.model_texts.proofs.Children.{each_child}
 use Rattle.model_texts.proofs.Nested.{text_is_whole}
 use Rattle.ecore_meta.specs.Promised.{IsMetamodel}
-use Rattle.round_trip.proofs.KeysTypes.{Draft}
+use Rattle.round_trip.proofs.KeysTypes.{ElementDraft}
 use Rattle.round_trip.proofs.ReadingKinds.{IsObject}
 use Rattle.round_trip.proofs.WalksApart.{rows_come}
 use Rattle.round_trip.proofs.WalksRows.{Come, forest, tree_rows}
 use Rattle.round_trip.proofs.WalksSteps.{Walked, items_walk}
 use Rattle.round_trip.proofs.WalksWhole.{all_both, listed_depths, objects, placed, walk, IsWithinIf}
 
-module _ (meta : Meta) (below : ℕ → Option DocParent → IdBytes → List Draft) (shown : IdBytes → Data) (objects : (c : IdBytes) → IsObject (shown c)) where
+module _ (meta : Meta) (below : ℕ → Option DocParent → IdBytes → List ElementDraft) (shown : IdBytes → Data)
+    (objects : (c : IdBytes) → IsObject (shown c)) where
   walked_object : (d : Data) → IsObject d → walked meta d ≡ element_rows meta [] None None d
   walked_object d o = subst (λ x. walked meta x ≡ element_rows meta [] None None x) (sym o.1) refl
 
@@ -44,7 +45,7 @@ one_or_list_within n (d ∷ ds) h = h
 
 module _ (meta : Meta) (promised : IsMetamodel meta) (m : State) (good : Good meta m) (forms : (e : IdBytes) → is_live m e ≡ true → is_id e ≡ true) where
   -- the rows that the walk gives
-  abbrev pub model_rows : List Draft
+  abbrev pub model_rows : List ElementDraft
   model_rows = forest (tree_rows meta m (depth (tree meta m))) 0 None (child_ids m Root)
 
   pub roots_walked : walked meta (tree meta m) ≡ Ok model_rows

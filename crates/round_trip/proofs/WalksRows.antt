@@ -18,7 +18,7 @@ use Rattle.model_documents.specs.Parts.{Part, Ids}
 use Rattle.model_texts.specs.Keys.{key_number, keys_of}
 use Rattle.model_state.specs.Listing.{values_at}
 use Rattle.model_texts.specs.Tree.{child_ids, target_ids}
-use Rattle.round_trip.proofs.KeysTypes.{Draft, Links, Key}
+use Rattle.round_trip.proofs.KeysTypes.{ElementDraft, Links, Key}
 
 -- ---- what stands under a feature
 -- the values of an attribute, where it has some
@@ -38,7 +38,7 @@ by_number g (suc zero) = []
 by_number g (suc (suc f)) = g f
 
 -- the rows of some elements in a place, where below gives those of one after so many rows
-abbrev pub forest : (ℕ → Option DocParent → IdBytes → List Draft) → ℕ → Option DocParent → List IdBytes → List Draft
+abbrev pub forest : (ℕ → Option DocParent → IdBytes → List ElementDraft) → ℕ → Option DocParent → List IdBytes → List ElementDraft
 forest below k parent [] = []
 forest below k parent (c ∷ cs) = below k parent c ++ forest below (k + length (below k parent c)) parent cs
 
@@ -64,7 +64,7 @@ module _ (m : State) (e : IdBytes) (f : ℕ) where
   kind_links Skip = []
 
   -- the rows of the elements in it, after so many rows
-  abbrev pub kind_rows : (ℕ → Option DocParent → IdBytes → List Draft) → ℕ → ℕ → Kind → List Draft
+  abbrev pub kind_rows : (ℕ → Option DocParent → IdBytes → List ElementDraft) → ℕ → ℕ → Kind → List ElementDraft
   kind_rows below own k (Attr scalar default) = []
   kind_rows below own k (AttrMany scalar unique) = []
   kind_rows below own k (Bounded target opposite) = []
@@ -93,13 +93,13 @@ module _ (meta : Meta) (m : State) (e : IdBytes) where
   keys_links [] = []
   keys_links (key ∷ keys) = key_links key ++ keys_links keys
 
-  module _ (below : ℕ → Option DocParent → IdBytes → List Draft) (own : ℕ) where
+  module _ (below : ℕ → Option DocParent → IdBytes → List ElementDraft) (own : ℕ) where
     -- the rows of the elements under a key, after so many rows
-    abbrev pub key_rows : ℕ → Key → List Draft
+    abbrev pub key_rows : ℕ → Key → List ElementDraft
     key_rows k key = by_number (λ f. kind_rows m e f below own k (kind_of meta f)) (key_number key)
 
     -- after so many rows
-    abbrev pub keys_rows : ℕ → List Key → List Draft
+    abbrev pub keys_rows : ℕ → List Key → List ElementDraft
     keys_rows k [] = []
     keys_rows k (key ∷ keys) = key_rows k key ++ keys_rows (k + length (key_rows k key)) keys
 
@@ -118,7 +118,7 @@ module _ (meta : Meta) (m : State) where
   class_at e = unwrap_or (get m.kind e) 0
 
   -- the row of an element
-  abbrev pub own_row : Option DocParent → IdBytes → Draft
+  abbrev pub own_row : Option DocParent → IdBytes → ElementDraft
   own_row parent e = record {
     id = Some e;
     class = class_at e;
@@ -128,7 +128,7 @@ module _ (meta : Meta) (m : State) where
   }
 
   -- the rows of an element after so many rows, down to a depth
-  unfoldable pub tree_rows : ℕ → ℕ → Option DocParent → IdBytes → List Draft
+  unfoldable pub tree_rows : ℕ → ℕ → Option DocParent → IdBytes → List ElementDraft
   tree_rows zero k parent e = []
   tree_rows (suc n) k parent e = own_row parent e ∷ keys_rows meta m e (tree_rows n) k (suc k) (keys_of meta (class_at e))
 

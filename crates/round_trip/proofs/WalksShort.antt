@@ -17,9 +17,9 @@ use Rattle.model_documents.specs.Parts.{Part, no_part, joined, Ids, ids_of}
 use Rattle.model_documents.specs.Reads.{Read, «then», unless}
 use Rattle.model_documents.specs.Walk.{element_rows, held_rows, items_rows, key_named, key_part, members_rows, object_rows, own_rows, walked}
 use Rattle.model_documents.proofs.Apart.{key_gives, of_ok, then_ok, unless_ok}
-use Rattle.round_trip.proofs.KeysTypes.{Draft}
+use Rattle.round_trip.proofs.KeysTypes.{ElementDraft}
 
-rows_ok : (xs ys : List Draft) → ◌≡◌ {A = Read (List Draft)} (Ok xs) (Ok ys) → xs ≡ ys
+rows_ok : (xs ys : List ElementDraft) → ◌≡◌ {A = Read (List ElementDraft)} (Ok xs) (Ok ys) → xs ≡ ys
 rows_ok xs ys h = cc
 
 -- the text of a member is as long as its value's and that of the rest
@@ -38,39 +38,39 @@ item_length later d ds =
     omega arith
 
 -- so many rows more
-bare_more : (xs ys : List Draft) (n : ℕ) → ys ≡ [] → length (xs ++ ys) ≤ length xs + n
+bare_more : (xs ys : List ElementDraft) (n : ℕ) → ys ≡ [] → length (xs ++ ys) ≤ length xs + n
 bare_more xs ys n h = let a = length-append xs ys in let b = ap length h in omega arith
 
-grown_more : (xs ys : List Draft) (n : ℕ) → length ys ≤ n → length (xs ++ ys) ≤ length xs + n
+grown_more : (xs ys : List ElementDraft) (n : ℕ) → length ys ≤ n → length (xs ++ ys) ≤ length xs + n
 grown_more xs ys n h = let a = length-append xs ys in omega arith
 
-none_more : (later : Bool) (rows more : List Draft) → rows ≡ more → length more ≤ length rows + length (items_text later no_items)
+none_more : (later : Bool) (rows more : List ElementDraft) → rows ≡ more → length more ≤ length rows + length (items_text later no_items)
 none_more later rows more is = let e = ap length is in omega arith
 
 no_key_more : (later : Bool) (part more : Part) → part ≡ more → length more.rows ≤ length part.rows + length (members_text later no_members)
 no_key_more later part more is = let e = ap (λ (p : Part). length p.rows) is in omega arith
 
-nothing_more : (more : List Draft) (n : ℕ) → [] ≡ more → length more ≤ n
+nothing_more : (more : List ElementDraft) (n : ℕ) → [] ≡ more → length more ≤ n
 nothing_more more n is = let e = ap length is in omega arith
 
 more_steps : (a b n c d t : ℕ) → a ≤ b + c → n ≤ a + d → c + d ≤ t → n ≤ b + t
 more_steps a b n c d t h g k = omega arith
 
-array_more : (ds : Items) (more : List Draft) → length more ≤ length {A = Draft} [] + length (items_text false ds)
+array_more : (ds : Items) (more : List ElementDraft) → length more ≤ length {A = ElementDraft} [] + length (items_text false ds)
     → length more ≤ length (compact_text (array ds))
 array_more ds more h = omega arith
 
 module _ (meta : Meta) where
   object_short : (ids : Ids) (parent : Option DocParent) (default : Option ℕ) (ms : Members) (inside : ℕ → Ids → Read Part)
-      → ((c : ℕ) (below : Ids) (part : Part) → inside c below ≡ Ok part → length part.rows ≤ length {A = Draft} [] + length (members_text false ms))
-      → (more : List Draft) → object_rows meta ids parent default ms inside ≡ Ok more → length more ≤ length (compact_text (object ms))
+      → ((c : ℕ) (below : Ids) (part : Part) → inside c below ≡ Ok part → length part.rows ≤ length {A = ElementDraft} [] + length (members_text false ms))
+      → (more : List ElementDraft) → object_rows meta ids parent default ms inside ≡ Ok more → length more ≤ length (compact_text (object ms))
   object_short ids parent default ms inside short more h =
       let class = then_ok (class_of meta default (get_member (codes "eClass") ms))
       (λ c. «then» (id_of ids (get_member (codes "_id") ms)) (λ id. own_rows parent id c (inside c (ids ++ id ∷ [])))) more h in
       let name = then_ok (id_of ids (get_member (codes "_id") ms)) (λ id. own_rows parent id class.0 (inside class.0 (ids ++ id ∷ []))) more class.2 in
       let part = then_ok (inside class.0 (ids ++ name.0 ∷ []))
       (λ (p : Part). Ok (record { id = name.0; class = class.0; parent = parent; attrs = p.attrs; links = p.links } ∷ p.rows)) more name.2 in
-      let own : Draft = record { id = name.0; class = class.0; parent = parent; attrs = part.0.attrs; links = part.0.links } in
+      let own : ElementDraft = record { id = name.0; class = class.0; parent = parent; attrs = part.0.attrs; links = part.0.links } in
       let is : suc (length part.0.rows) ≡ length more = ap length {x = own ∷ part.0.rows} (rows_ok (own ∷ part.0.rows) more part.2) in
       let l = short class.0 (ids ++ name.0 ∷ []) part.0 part.1 in
       omega arith
@@ -78,7 +78,7 @@ module _ (meta : Meta) where
   mutual
     unfolding element_rows items_rows members_rows held_rows
 
-    element_short : (ids : Ids) (parent : Option DocParent) (default : Option ℕ) (d : Data) (more : List Draft)
+    element_short : (ids : Ids) (parent : Option DocParent) (default : Option ℕ) (d : Data) (more : List ElementDraft)
         → element_rows meta ids parent default d ≡ Ok more → length more ≤ length (compact_text d)
     element_short ids parent default (object ms) more h =
         object_short ids parent default ms (λ c below. members_rows meta c (length ids) below no_part ms)
@@ -89,7 +89,7 @@ module _ (meta : Meta) where
     element_short ids parent default (string s) more h = cc
     element_short ids parent default (array ds) more h = cc
 
-    items_short : (ids : Ids) (parent : Option DocParent) (default : Option ℕ) (rows : List Draft) (later : Bool) (ds : Items) (more : List Draft)
+    items_short : (ids : Ids) (parent : Option DocParent) (default : Option ℕ) (rows : List ElementDraft) (later : Bool) (ds : Items) (more : List ElementDraft)
         → items_rows meta ids parent default rows ds ≡ Ok more → length more ≤ length rows + length (items_text later ds)
     items_short ids parent default rows later no_items more h = none_more later rows more (rows_ok rows more h)
     items_short ids parent default rows later (item d ds) more h =
@@ -103,7 +103,7 @@ module _ (meta : Meta) where
         → length more.rows ≤ length part.rows + length (members_text later ms)
     members_short c own ids part later no_members more h = no_key_more later part more (of_ok part more h)
     members_short c own ids part later (member k d ms) more h =
-        let held : ℕ → ℕ → Read (List Draft) = λ f target. held_rows meta (ids ++ ids_of part.rows) (record { row = own; feature = f }) target d in
+        let held : ℕ → ℕ → Read (List ElementDraft) = λ f target. held_rows meta (ids ++ ids_of part.rows) (record { row = own; feature = f }) target d in
         let one = then_ok (key_part meta (key_named meta c k) d held) (λ more. members_rows meta c own ids (joined part more) ms) more h in
         more_steps (length (part.rows ++ one.0.rows)) (length part.rows) (length more.rows) (length (compact_text d)) (length (members_text true ms))
         (length (members_text later (member k d ms)))
@@ -114,7 +114,7 @@ module _ (meta : Meta) where
         ])
         (members_short c own ids (joined part one.0) true ms more one.2) (member_length later k d ms)
 
-    held_short : (ids : Ids) (parent : DocParent) (target : ℕ) (d : Data) (more : List Draft) → held_rows meta ids parent target d ≡ Ok more
+    held_short : (ids : Ids) (parent : DocParent) (target : ℕ) (d : Data) (more : List ElementDraft) → held_rows meta ids parent target d ≡ Ok more
         → length more ≤ length (compact_text d)
     held_short ids parent target null more h = nothing_more more (length (compact_text null)) (rows_ok [] more h)
     held_short ids parent target (object ms) more h =
@@ -132,7 +132,7 @@ module _ (meta : Meta) where
     held_short ids parent target (number n) more h = cc
     held_short ids parent target (string s) more h = cc
 
-  pub walked_short : (d : Data) (more : List Draft) → walked meta d ≡ Ok more → length more ≤ length (compact_text d)
+  pub walked_short : (d : Data) (more : List ElementDraft) → walked meta d ≡ Ok more → length more ≤ length (compact_text d)
   walked_short (array ds) more h = array_more ds more (items_short [] None None [] false ds more h)
   walked_short (object ms) more h = element_short [] None None (object ms) more h
   walked_short null more h = cc

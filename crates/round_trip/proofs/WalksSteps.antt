@@ -15,7 +15,7 @@ use Rattle.model_documents.specs.Walk.{element_rows, held_rows, items_rows, key_
 use Rattle.model_documents.proofs.IdLists.{ids_append}
 use Rattle.model_texts.specs.Keys.{key_name}
 use Rattle.model_texts.specs.Tree.{members, with_member}
-use Rattle.round_trip.proofs.KeysTypes.{Draft, Key}
+use Rattle.round_trip.proofs.KeysTypes.{ElementDraft, Key}
 use Rattle.round_trip.proofs.WalksRows.{Come, forest, key_attrs, key_links, key_part_told, key_rows, keys_attrs, keys_links, keys_rows, told}
 
 -- ids that come are some and then others
@@ -27,28 +27,29 @@ pub come_second : (ids xs ys : Ids) → Come ids (xs ++ ys) → Come (ids ++ xs)
 come_second ids [] ys h = subst (λ zs. Come zs ys) (sym (append-nil ids)) h
 come_second ids (x ∷ xs) ys h = subst (λ zs. Come zs ys) (append_assoc ids (x ∷ []) xs) (come_second (ids ++ x ∷ []) xs ys h.1)
 
-pub ids_length : (ids : Ids) (rows : List Draft) → length (ids ++ ids_of rows) ≡ length ids + length rows
-ids_length ids rows = length-append ids (ids_of rows) ∙ ap (λ n. length ids + n) (length-map rows (λ (r : Draft). r.id))
+pub ids_length : (ids : Ids) (rows : List ElementDraft) → length (ids ++ ids_of rows) ≡ length ids + length rows
+ids_length ids rows = length-append ids (ids_of rows) ∙ ap (λ n. length ids + n) (length-map rows (λ (r : ElementDraft). r.id))
 
 -- after the rows so far
-pub behind_rows : (ids : Ids) (rows more : List Draft) → (ids ++ ids_of rows) ++ ids_of more ≡ ids ++ ids_of (rows ++ more)
+pub behind_rows : (ids : Ids) (rows more : List ElementDraft) → (ids ++ ids_of rows) ++ ids_of more ≡ ids ++ ids_of (rows ++ more)
 behind_rows ids rows more = append_assoc ids (ids_of rows) (ids_of more) ∙ ap (λ xs. ids ++ xs) (sym (ids_append rows more))
 
-come_parts : (ids : Ids) (xs ys : List Draft) → Come ids (ids_of (xs ++ ys)) → Come ids (ids_of xs) × Come (ids ++ ids_of xs) (ids_of ys)
+come_parts : (ids : Ids) (xs ys : List ElementDraft) → Come ids (ids_of (xs ++ ys)) → Come ids (ids_of xs) × Come (ids ++ ids_of xs) (ids_of ys)
 come_parts ids xs ys h =
     let h' : Come ids (ids_of xs ++ ids_of ys) = subst (Come ids) (ids_append xs ys) h in
     (come_first ids (ids_of xs) (ids_of ys) h', come_second ids (ids_of xs) (ids_of ys) h')
 
-counted : (ids : Ids) (rows here : List Draft) → length (ids ++ ids_of rows) + length here ≡ length (ids ++ ids_of (rows ++ here))
+counted : (ids : Ids) (rows here : List ElementDraft) → length (ids ++ ids_of rows) + length here ≡ length (ids ++ ids_of (rows ++ here))
 counted ids rows here = sym (ids_length (ids ++ ids_of rows) here) ∙ ap length (behind_rows ids rows here)
 
 -- ---- elements in a list
-module _ (meta : Meta) (below : ℕ → Option DocParent → IdBytes → List Draft) (whole : IdBytes → Data) (parent : Option DocParent) (default : Option ℕ) where
+module _ (meta : Meta) (below : ℕ → Option DocParent → IdBytes → List ElementDraft) (whole : IdBytes → Data) (parent : Option DocParent)
+    (default : Option ℕ) where
   -- the walk of an element gives its rows, after whatever ids have come
   abbrev pub Walked : IdBytes → Type 0
   Walked c = (ids : Ids) → Come ids (ids_of (below (length ids) parent c)) → element_rows meta ids parent default (whole c) ≡ Ok (below (length ids) parent c)
 
-  pub items_walk : (ids : Ids) (cs : List IdBytes) (rows : List Draft) (k : ℕ) → k ≡ length (ids ++ ids_of rows) → AllByRecursion Walked cs
+  pub items_walk : (ids : Ids) (cs : List IdBytes) (rows : List ElementDraft) (k : ℕ) → k ≡ length (ids ++ ids_of rows) → AllByRecursion Walked cs
       → Come (ids ++ ids_of rows) (ids_of (forest below k parent cs))
       → items_rows meta ids parent default rows (items_of (map whole cs)) ≡ Ok (rows ++ forest below k parent cs)
   unfolding items_rows
@@ -73,7 +74,7 @@ joined_assoc : (p q r : Part) → joined (joined p q) r ≡ joined p (joined q r
 joined_assoc p q r = λ i.
     record { attrs = append_assoc p.attrs q.attrs r.attrs i; links = append_assoc p.links q.links r.links i; rows = append_assoc p.rows q.rows r.rows i }
 
-module _ (meta : Meta) (m : State) (e : IdBytes) (below : ℕ → Option DocParent → IdBytes → List Draft) (own c : ℕ) (p : Key → Option Data) where
+module _ (meta : Meta) (m : State) (e : IdBytes) (below : ℕ → Option DocParent → IdBytes → List ElementDraft) (own c : ℕ) (p : Key → Option Data) where
   -- what the value at a key gives
   abbrev at_key : Ids → List ℕ → Data → Read Part
   at_key ids name d = key_part meta (key_named meta c name) d (λ f target. held_rows meta ids (record { row = own; feature = f }) target d)
@@ -92,7 +93,7 @@ module _ (meta : Meta) (m : State) (e : IdBytes) (below : ℕ → Option DocPare
         ∙ ap (λ xs. xs ++ keys_rows meta m e below own (k + length (key_rows meta m e below own k key)) keys) (sym (ok.2 k))) i;
   }
     where
-      none_more : (k : ℕ) (xs : List Draft) → xs ≡ [] → k ≡ k + length xs
+      none_more : (k : ℕ) (xs : List ElementDraft) → xs ≡ [] → k ≡ k + length xs
       none_more k xs h = let l = ap length h in omega arith
 
   -- the walk over the keys, after what the keys before gave

@@ -36,7 +36,7 @@ use Rattle.ecore_meta.specs.Named.{IsNamed}
 use Rattle.ecore_meta.specs.Promised.{IsMetamodel}
 use Rattle.round_trip.proofs.KeysFound.{Stands, all_stand, class_again, class_stands, feature_found, feature_stands, ident_stands, member_at}
 use Rattle.round_trip.proofs.KeysRise.{keys_rise}
-use Rattle.round_trip.proofs.KeysTypes.{Draft, Key, Ident, Class, Feature}
+use Rattle.round_trip.proofs.KeysTypes.{ElementDraft, Key, Ident, Class, Feature}
 use Rattle.round_trip.proofs.ReadingKinds.{ContentFits, FeatureOk, IsObject, feature_ok}
 use Rattle.round_trip.proofs.ReadingTrees.{AreOk, values_ok}
 use Rattle.round_trip.proofs.WalksCounts.{bounded_few, children_within, free_few}
@@ -191,7 +191,7 @@ module _ (meta : Meta) (promised : IsMetamodel meta) (m : State) (good : Good me
         ((λ ids come. refl), ((λ ids come. refl), features_due (features_of meta c) (λ f s. s) deep))
 
   -- the row of an element of a class, and the rows inside
-  abbrev rows_of : ℕ → ℕ → Option DocParent → IdBytes → ℕ → List Draft
+  abbrev rows_of : ℕ → ℕ → Option DocParent → IdBytes → ℕ → List ElementDraft
   rows_of n k parent e c =
       record { id = Some e; class = c; parent = parent; attrs = keys_attrs meta m e (keys_of meta c); links = keys_links meta m e (keys_of meta c) }
       ∷ keys_rows meta m e (tree_rows meta m n) k (suc k) (keys_of meta c)

@@ -7,7 +7,7 @@ use Rattle.model_state.specs.Keys.{IdBytes}
 use Rattle.model_state.specs.State.{State, place_eq}
 use Rattle.model_documents.specs.declared.doc.DocAttr.{DocAttr}
 use Rattle.model_documents.specs.declared.doc.DocRow.{DocRow}
-use Rattle.model_documents.specs.Merged.{attr_at, targets_at}
+use Rattle.model_documents.specs.Completed.{attr_at, targets_at}
 use Rattle.model_state.specs.Listing.{values_at}
 use Rattle.model_texts.specs.Tree.{child_ids, target_ids}
 use Rattle.import_laws.specs.Names.{name_at}

@@ -14,36 +14,37 @@ use Rattle.plain_repository.specs.Lines.{takes_block}
 use Rattle.script_items.specs.Items.{GotItem}
 
 -- a fault of the line ends the script
-pub fault_ends_it : (fault : LineFault) (place : ℕ) (unread : List ℕ) → IsFault fault (next_line_of place unread)
-    → EndsScript fault (script_from takes_block place unread)
-fault_ends_it (faults.LineTooLong at) place unread is = script_fault takes_block place unread (faults.LineTooLong at) is
-fault_ends_it (faults.BlockTooLong at) place unread is = script_fault takes_block place unread (faults.BlockTooLong at) is
-fault_ends_it (faults.NotText at) place unread is = script_fault takes_block place unread (faults.NotText at) is
-fault_ends_it (faults.UnendedBlock at) place unread is = script_fault takes_block place unread (faults.UnendedBlock at) is
-fault_ends_it (faults.InputTooLong at) place unread is = script_fault takes_block place unread (faults.InputTooLong at) is
-fault_ends_it faults.Failed place unread is = tt
-fault_ends_it faults.Memory place unread is = tt
+pub fault_ends_it : (fault : LineFault) (offset : ℕ) (unread : List ℕ) → IsFault fault (next_line_of offset unread)
+    → EndsScript fault (script_from takes_block offset unread)
+fault_ends_it (faults.LineTooLong at) offset unread is = script_fault takes_block offset unread (faults.LineTooLong at) is
+fault_ends_it (faults.BlockTooLong at) offset unread is = script_fault takes_block offset unread (faults.BlockTooLong at) is
+fault_ends_it (faults.NotText at) offset unread is = script_fault takes_block offset unread (faults.NotText at) is
+fault_ends_it (faults.UnendedBlock at) offset unread is = script_fault takes_block offset unread (faults.UnendedBlock at) is
+fault_ends_it (faults.InputTooLong at) offset unread is = script_fault takes_block offset unread (faults.InputTooLong at) is
+fault_ends_it faults.Failed offset unread is = tt
+fault_ends_it faults.Memory offset unread is = tt
 
 got_line : (got : Got) (text : List ℕ) (read : Result (Option (List ℕ)) LineFault) → got ≢ End → GotLine (Ok got) text read → read ≡ Ok (Some text)
 got_line Line text read not_end is = is
 got_line End text read not_end is = absurd (not_end refl)
 
-module _ (place place' : ℕ) (unread unread' text line : List ℕ) (got : Got) (not_end : got ≢ End) (read : GotLine (Ok got) text (next_line_of place unread))
-    (past : PastLine unread unread' place place') (line_is : line ≡ text) where
-  next_is : next_line_of place unread ≡ Ok (Some line)
-  next_is = got_line got text (next_line_of place unread) not_end read ∙ ap (λ (t : List ℕ). Ok (Some t)) (sym line_is)
+module _ (offset place' : ℕ) (unread unread' text line : List ℕ) (got : Got) (not_end : got ≢ End) (read : GotLine (Ok got) text (next_line_of offset unread))
+    (past : PastLine unread unread' offset place') (line_is : line ≡ text) where
+  next_is : next_line_of offset unread ≡ Ok (Some line)
+  next_is = got_line got text (next_line_of offset unread) not_end read ∙ ap (λ (t : List ℕ). Ok (Some t)) (sym line_is)
 
-  there : place' + length (after_first is_lf unread) ≡ place + length unread
-  there = subst (λ (u : List ℕ). place' + length u ≡ place + length unread) past.unread past.place
+  there : place' + length (after_first is_lf unread) ≡ offset + length unread
+  there = subst (λ (u : List ℕ). place' + length u ≡ offset + length unread) past.unread past.offset
 
   -- the line takes no block
-  pub plain_item : takes_block line ≡ false → script_from takes_block place unread ≡ with_item line None (script_from takes_block place' unread')
-  plain_item plain = script_line takes_block place place' unread line next_is plain there
+  pub plain_item : takes_block line ≡ false → script_from takes_block offset unread ≡ with_item line None (script_from takes_block place' unread')
+  plain_item plain = script_line takes_block offset place' unread line next_is plain there
       ∙ ap (λ (u : List ℕ). with_item line None (script_from takes_block place' u)) (sym past.unread)
 
   -- the line takes a block
-  pub block_item : takes_block line ≡ true → script_from takes_block place unread ≡ cut_block takes_block line place' place' (Ok []) (slice_split is_lf unread')
-  block_item takes = script_block takes_block place place' unread line next_is takes there
+  pub block_item : takes_block line ≡ true
+      → script_from takes_block offset unread ≡ cut_block takes_block line place' place' (Ok []) (slice_split is_lf unread')
+  block_item takes = script_block takes_block offset place' unread line next_is takes there
       ∙ ap (λ (u : List ℕ). cut_block takes_block line place' place' (Ok []) (slice_split is_lf u)) (sym past.unread)
 
 -- a call that failed by the fault got no item

@@ -18,7 +18,8 @@ use Rattle.host_port.specs.Limits.{line_limit, block_limit, input_limit}
 use Rattle.host_port.proofs.ScriptCuts.{first_at, raw_is, ended_is, after_is, line_within}
 use Rattle.host_port.proofs.ScriptItems.{script_line, cut_nothing, block_goes, block_ends}
 use Rattle.host_port.proofs.ScriptHeads.{script_block}
-use Rattle.script_lang.specs.Words.{is_space, is_word}
+use Rattle.script_lang.specs.Words.{is_space}
+use Rattle.finite_maps.specs.Equal.{text_eq}
 use Rattle.plain_repository.specs.Lines.{takes_block}
 use Rattle.script_items.specs.Items.{script}
 use Rattle.script_items.specs.Library.{library}
@@ -56,32 +57,32 @@ no_return : (l : List ℕ) → list_all is_graphic l ≡ true → (slice_index l
 no_return [] all = refl
 no_return (b ∷ l) all = let g = graphic_at (b ∷ l) (length (b ∷ l) - 1) all (omega arith) in grind (arith, nat_tests, g)
 
-whole_text : (place : ℕ) (l : List ℕ) → list_all is_graphic l ≡ true → text_at place l ≡ Ok l
-whole_text place l all =
+whole_text : (offset : ℕ) (l : List ℕ) → list_all is_graphic l ≡ true → text_at offset l ≡ Ok l
+whole_text offset l all =
     let valid : utf8_valid_len l ≡ length l = utf8_valid_len-IsUtf8 l (IsUtf8-from_ascii l (ascii l all)) in
     let test : (utf8_valid_len l == length l) ≡ true = eq-eqb (utf8_valid_len l) (length l) valid in
     rw test refl
 
-line_read : (place : ℕ) (l r : List ℕ) → list_all is_graphic l ≡ true → length l ≤ line_limit → place + length l < input_limit
-    → next_line_of place ((l ++ 10 ∷ []) ++ r) ≡ Ok (Some l)
-line_read place l r all short within =
+line_read : (offset : ℕ) (l r : List ℕ) → list_all is_graphic l ≡ true → length l ≤ line_limit → offset + length l < input_limit
+    → next_line_of offset ((l ++ 10 ∷ []) ++ r) ≡ Ok (Some l)
+line_read offset l r all short within =
     let cut = cut_line l r all in
-    ap (λ (x : List ℕ). line_of place x (is_ended ((l ++ 10 ∷ []) ++ r))) cut.raw ∙ ap (λ (b : Bool). line_of place l b) cut.ended
-    ∙ line_within place l true short within
-    ∙ ap (λ (x : List ℕ). line_text (text_at place x)) (same_if (slice_index l (length l - 1) == 13) (take (length l - 1) l) l (no_return l all))
-    ∙ ap line_text (whole_text place l all)
+    ap (λ (x : List ℕ). line_of offset x (is_ended ((l ++ 10 ∷ []) ++ r))) cut.raw ∙ ap (λ (b : Bool). line_of offset l b) cut.ended
+    ∙ line_within offset l true short within
+    ∙ ap (λ (x : List ℕ). line_text (text_at offset x)) (same_if (slice_index l (length l - 1) == 13) (take (length l - 1) l) l (no_return l all))
+    ∙ ap line_text (whole_text offset l all)
 
 -- a line that takes no block
-plain_item : (takes : List ℕ → Bool) (place : ℕ) (l r : List ℕ) → list_all is_graphic l ≡ true → length l ≤ line_limit
-    → place + length l < input_limit → takes l ≡ false
-    → script_from takes place ((l ++ 10 ∷ []) ++ r) ≡ with_item l None (script_from takes (place + length l + 1) r)
-plain_item takes place l r all short within without_block =
+plain_item : (takes : List ℕ → Bool) (offset : ℕ) (l r : List ℕ) → list_all is_graphic l ≡ true → length l ≤ line_limit
+    → offset + length l < input_limit → takes l ≡ false
+    → script_from takes offset ((l ++ 10 ∷ []) ++ r) ≡ with_item l None (script_from takes (offset + length l + 1) r)
+plain_item takes offset l r all short within without_block =
     let cut = cut_line l r all in
     let size : length (l ++ 10 ∷ []) ≡ length l + 1 = length-append l (10 ∷ []) in
     let total = length-append (l ++ 10 ∷ []) r in
     let behind = ap length cut.after in
-    script_line takes place (place + length l + 1) ((l ++ 10 ∷ []) ++ r) l (line_read place l r all short within) without_block (omega arith)
-    ∙ ap (λ (u : List ℕ). with_item l None (script_from takes (place + length l + 1) u)) cut.after
+    script_line takes offset (offset + length l + 1) ((l ++ 10 ∷ []) ++ r) l (line_read offset l r all short within) without_block (omega arith)
+    ∙ ap (λ (u : List ℕ). with_item l None (script_from takes (offset + length l + 1) u)) cut.after
 
 -- lines, each with its line feed
 abbrev pub joined : List (List ℕ) → List ℕ
@@ -102,34 +103,34 @@ bytes_same l all = same_if (slice_index l (length l - 1) == 13) (take (length l 
 and_false : (a b : Bool) → a ≡ false → (a && b) ≡ false
 and_false a b is = rw is refl
 
-goes_on : (place : ℕ) (l : List ℕ) → list_all is_graphic l ≡ true → is_dot l ≡ false → ends_block place true l ≡ false
-goes_on place l all other = and_false (is_dot (line_bytes true l)) (nat_lt (place + length l) input_limit) (ap is_dot (bytes_same l all) ∙ other)
+goes_on : (offset : ℕ) (l : List ℕ) → list_all is_graphic l ≡ true → is_dot l ≡ false → ends_block offset true l ≡ false
+goes_on offset l all other = and_false (is_dot (line_bytes true l)) (nat_lt (offset + length l) input_limit) (ap is_dot (bytes_same l all) ∙ other)
 
-one_more : (start place : ℕ) (text l : List ℕ) → list_all is_graphic l ≡ true → start ≤ place → place + length l + 1 ≤ start + block_limit
-    → place + length l < input_limit
-    → block_line start place true (Ok text) l ≡ Ok (Ok ((text ++ l) ++ 10 ∷ []))
-one_more start place text l all low short within =
-    let few : nat_lt block_limit (place + (length l + 1) - start) ≡ false = grind (arith, nat_tests) in
-    let near : nat_le input_limit (place + length l) ≡ false = grind (arith, nat_tests) in
-    rw (few, near, bytes_same l all, whole_text place l all) refl
+one_more : (start offset : ℕ) (text l : List ℕ) → list_all is_graphic l ≡ true → start ≤ offset → offset + length l + 1 ≤ start + block_limit
+    → offset + length l < input_limit
+    → block_line start offset true (Ok text) l ≡ Ok (Ok ((text ++ l) ++ 10 ∷ []))
+one_more start offset text l all low short within =
+    let few : nat_lt block_limit (offset + (length l + 1) - start) ≡ false = grind (arith, nat_tests) in
+    let near : nat_le input_limit (offset + length l) ≡ false = grind (arith, nat_tests) in
+    rw (few, near, bytes_same l all, whole_text offset l all) refl
 
-block_lines : (takes : List ℕ → Bool) (line : List ℕ) (ls : List (List ℕ)) (start place : ℕ) (text r : List ℕ) → list_all is_block_line ls ≡ true
-    → start ≤ place
-    → place + length (joined ls) + 2 ≤ start + block_limit → place + length (joined ls) + 2 < input_limit
-    → cut_block takes line start place (Ok text) (slice_split is_lf (joined ls ++ ((46 ∷ 10 ∷ []) ++ r))) ≡ after_block line (Ok (text ++ joined ls))
-    (script_from takes (place + length (joined ls) + 2) r)
-block_lines takes line [] start place text r all low short within =
+block_lines : (takes : List ℕ → Bool) (line : List ℕ) (ls : List (List ℕ)) (start offset : ℕ) (text r : List ℕ) → list_all is_block_line ls ≡ true
+    → start ≤ offset
+    → offset + length (joined ls) + 2 ≤ start + block_limit → offset + length (joined ls) + 2 < input_limit
+    → cut_block takes line start offset (Ok text) (slice_split is_lf (joined ls ++ ((46 ∷ 10 ∷ []) ++ r))) ≡ after_block line (Ok (text ++ joined ls))
+    (script_from takes (offset + length (joined ls) + 2) r)
+block_lines takes line [] start offset text r all low short within =
     let cut = cut_line (46 ∷ []) r refl in
-    let near : nat_lt (place + 1) input_limit ≡ true = grind (arith, nat_tests) in
-    let dot : ends_block place true (46 ∷ []) ≡ true = near in
+    let near : nat_lt (offset + 1) input_limit ≡ true = grind (arith, nat_tests) in
+    let dot : ends_block offset true (46 ∷ []) ≡ true = near in
     let total = length-append (46 ∷ 10 ∷ []) r in
     let behind = ap length cut.after in
-    let here : ends_block place (is_ended ((46 ∷ 10 ∷ []) ++ r)) (raw_line ((46 ∷ 10 ∷ []) ++ r)) ≡ true =
-    ap (λ (b : Bool). ends_block place b (raw_line ((46 ∷ 10 ∷ []) ++ r))) cut.ended ∙ ap (λ (x : List ℕ). ends_block place true x) cut.raw ∙ dot in
-    block_ends takes line start place (place + 0 + 2) (Ok text) ((46 ∷ 10 ∷ []) ++ r) here (omega (arith, ap length cut.raw)) (omega arith)
-    ∙ ap (λ (u : List ℕ). after_block line (Ok text) (script_from takes (place + 0 + 2) u)) cut.after
-    ∙ ap (λ (t : List ℕ). after_block line (Ok t) (script_from takes (place + 0 + 2) r)) (sym (append-nil text))
-block_lines takes line (l ∷ ls) start place text r all low short within =
+    let here : ends_block offset (is_ended ((46 ∷ 10 ∷ []) ++ r)) (raw_line ((46 ∷ 10 ∷ []) ++ r)) ≡ true =
+    ap (λ (b : Bool). ends_block offset b (raw_line ((46 ∷ 10 ∷ []) ++ r))) cut.ended ∙ ap (λ (x : List ℕ). ends_block offset true x) cut.raw ∙ dot in
+    block_ends takes line start offset (offset + 0 + 2) (Ok text) ((46 ∷ 10 ∷ []) ++ r) here (omega (arith, ap length cut.raw)) (omega arith)
+    ∙ ap (λ (u : List ℕ). after_block line (Ok text) (script_from takes (offset + 0 + 2) u)) cut.after
+    ∙ ap (λ (t : List ℕ). after_block line (Ok t) (script_from takes (offset + 0 + 2) r)) (sym (append-nil text))
+block_lines takes line (l ∷ ls) start offset text r all low short within =
     let parts = both (is_block_line l) (list_all is_block_line ls) all in
     let kinds = both (list_all is_graphic l) (not (is_dot l)) parts.0 in
     let cut = cut_line l (joined ls ++ ((46 ∷ 10 ∷ []) ++ r)) kinds.0 in
@@ -137,33 +138,33 @@ block_lines takes line (l ∷ ls) start place text r all low short within =
     let sum = length-append (l ++ 10 ∷ []) (joined ls) in
     let total = length-append (l ++ 10 ∷ []) (joined ls ++ ((46 ∷ 10 ∷ []) ++ r)) in
     let behind = ap length cut.after in
-    let same : (place + length l + 1) + length (joined ls) + 2 ≡ place + length ((l ++ 10 ∷ []) ++ joined ls) + 2 = omega arith in
-    ap (λ (u : List ℕ). cut_block takes line start place (Ok text) (slice_split is_lf u)) (append_assoc (l ++ 10 ∷ []) (joined ls) ((46 ∷ 10 ∷ []) ++ r))
-    ∙ block_goes takes line start place (place + length l + 1) (Ok text) (Ok ((text ++ l) ++ 10 ∷ []))
+    let same : (offset + length l + 1) + length (joined ls) + 2 ≡ offset + length ((l ++ 10 ∷ []) ++ joined ls) + 2 = omega arith in
+    ap (λ (u : List ℕ). cut_block takes line start offset (Ok text) (slice_split is_lf u)) (append_assoc (l ++ 10 ∷ []) (joined ls) ((46 ∷ 10 ∷ []) ++ r))
+    ∙ block_goes takes line start offset (offset + length l + 1) (Ok text) (Ok ((text ++ l) ++ 10 ∷ []))
     ((l ++ 10 ∷ []) ++ (joined ls ++ ((46 ∷ 10 ∷ []) ++ r))) cut.ended
-    (ap (λ (x : List ℕ). ends_block place true x) cut.raw ∙ goes_on place l kinds.0 (not_true (is_dot l) kinds.1))
-    (ap (λ (x : List ℕ). block_line start place true (Ok text) x) cut.raw ∙ one_more start place text l kinds.0 low (omega arith) (omega arith)) (omega arith)
-    ∙ ap (λ (u : List ℕ). cut_block takes line start (place + length l + 1) (Ok ((text ++ l) ++ 10 ∷ [])) (slice_split is_lf u)) cut.after
-    ∙ block_lines takes line ls start (place + length l + 1) ((text ++ l) ++ 10 ∷ []) r parts.1 (omega arith) (omega arith) (omega arith)
+    (ap (λ (x : List ℕ). ends_block offset true x) cut.raw ∙ goes_on offset l kinds.0 (not_true (is_dot l) kinds.1))
+    (ap (λ (x : List ℕ). block_line start offset true (Ok text) x) cut.raw ∙ one_more start offset text l kinds.0 low (omega arith) (omega arith)) (omega arith)
+    ∙ ap (λ (u : List ℕ). cut_block takes line start (offset + length l + 1) (Ok ((text ++ l) ++ 10 ∷ [])) (slice_split is_lf u)) cut.after
+    ∙ block_lines takes line ls start (offset + length l + 1) ((text ++ l) ++ 10 ∷ []) r parts.1 (omega arith) (omega arith) (omega arith)
     ∙ ap (λ (n : ℕ). after_block line (Ok (((text ++ l) ++ 10 ∷ []) ++ joined ls)) (script_from takes n r)) same
-    ∙ ap (λ (t : List ℕ). after_block line (Ok t) (script_from takes (place + length ((l ++ 10 ∷ []) ++ joined ls) + 2) r)) (simp append_assoc)
+    ∙ ap (λ (t : List ℕ). after_block line (Ok t) (script_from takes (offset + length ((l ++ 10 ∷ []) ++ joined ls) + 2) r)) (simp append_assoc)
 
 -- a line that takes a block, and its block
-block_item : (takes : List ℕ → Bool) (place : ℕ) (l : List ℕ) (ls : List (List ℕ)) (r : List ℕ) → list_all is_graphic l ≡ true → length l ≤ line_limit
+block_item : (takes : List ℕ → Bool) (offset : ℕ) (l : List ℕ) (ls : List (List ℕ)) (r : List ℕ) → list_all is_graphic l ≡ true → length l ≤ line_limit
     → takes l ≡ true → list_all is_block_line ls ≡ true
-    → length (joined ls) + 2 ≤ block_limit → place + length l + 1 + length (joined ls) + 2 < input_limit
-    → script_from takes place ((l ++ 10 ∷ []) ++ ((joined ls ++ 46 ∷ 10 ∷ []) ++ r)) ≡ with_item l (Some (joined ls))
-    (script_from takes (place + length l + 1 + length (joined ls) + 2) r)
-block_item takes place l ls r all short blocked lines few within =
+    → length (joined ls) + 2 ≤ block_limit → offset + length l + 1 + length (joined ls) + 2 < input_limit
+    → script_from takes offset ((l ++ 10 ∷ []) ++ ((joined ls ++ 46 ∷ 10 ∷ []) ++ r)) ≡ with_item l (Some (joined ls))
+    (script_from takes (offset + length l + 1 + length (joined ls) + 2) r)
+block_item takes offset l ls r all short blocked lines few within =
     let cut = cut_line l ((joined ls ++ 46 ∷ 10 ∷ []) ++ r) all in
     let size : length (l ++ 10 ∷ []) ≡ length l + 1 = length-append l (10 ∷ []) in
     let total = length-append (l ++ 10 ∷ []) ((joined ls ++ 46 ∷ 10 ∷ []) ++ r) in
     let behind = ap length cut.after in
-    script_block takes place (place + length l + 1) ((l ++ 10 ∷ []) ++ ((joined ls ++ 46 ∷ 10 ∷ []) ++ r)) l
-    (line_read place l ((joined ls ++ 46 ∷ 10 ∷ []) ++ r) all short (omega arith)) blocked (omega arith)
-    ∙ ap (λ (u : List ℕ). cut_block takes l (place + length l + 1) (place + length l + 1) (Ok []) (slice_split is_lf u))
+    script_block takes offset (offset + length l + 1) ((l ++ 10 ∷ []) ++ ((joined ls ++ 46 ∷ 10 ∷ []) ++ r)) l
+    (line_read offset l ((joined ls ++ 46 ∷ 10 ∷ []) ++ r) all short (omega arith)) blocked (omega arith)
+    ∙ ap (λ (u : List ℕ). cut_block takes l (offset + length l + 1) (offset + length l + 1) (Ok []) (slice_split is_lf u))
     (cut.after ∙ append_assoc (joined ls) (46 ∷ 10 ∷ []) r)
-    ∙ block_lines takes l ls (place + length l + 1) (place + length l + 1) [] r lines (omega arith) (omega arith) (omega arith)
+    ∙ block_lines takes l ls (offset + length l + 1) (offset + length l + 1) [] r lines (omega arith) (omega arith) (omega arith)
 
 whole_line : (l : List ℕ) → IsPlain l → list_all is_graphic l ≡ true
 whole_line l p = subst (λ (x : List ℕ). list_all is_graphic x ≡ true) (sym p.line_is) (first_graphic p.first p.rest p.letter p.low p.graphic)
@@ -172,15 +173,15 @@ whole_line l p = subst (λ (x : List ℕ). list_all is_graphic x ≡ true) (sym 
     first_graphic first rest high low all = let here : is_graphic first ≡ true = grind (arith, nat_tests, high, low) in rw here all
 
 -- lines that take no block
-plain_lines : (takes : List ℕ → Bool) → ((l : List ℕ) → IsPlain l → takes l ≡ false) → (lines : List (List ℕ)) (place : ℕ) → All IsPlain lines
-    → place + 202 * length lines < input_limit
-    → script_from takes place (script_bytes (map without_block lines)) ≡ record { items = map without_block lines; fault = None }
-plain_lines takes none [] place all near = cut_nothing takes place (omega arith)
-plain_lines takes none (l ∷ ls) place all near =
+plain_lines : (takes : List ℕ → Bool) → ((l : List ℕ) → IsPlain l → takes l ≡ false) → (lines : List (List ℕ)) (offset : ℕ) → All IsPlain lines
+    → offset + 202 * length lines < input_limit
+    → script_from takes offset (script_bytes (map without_block lines)) ≡ record { items = map without_block lines; fault = None }
+plain_lines takes none [] offset all near = cut_nothing takes offset (omega arith)
+plain_lines takes none (l ∷ ls) offset all near =
     let p : IsPlain l = all 0 l (omega arith) in
     let long : length l ≤ 201 = omega (arith, ap length p.line_is, p.short) in
-    plain_item takes place l (script_bytes (map without_block ls)) (whole_line l p) (omega arith) (omega arith) (none l p)
-    ∙ ap (λ (s : Script). with_item l None s) (plain_lines takes none ls (place + length l + 1) (λ k d low. all (suc k) d (omega arith)) (omega arith))
+    plain_item takes offset l (script_bytes (map without_block ls)) (whole_line l p) (omega arith) (omega arith) (none l p)
+    ∙ ap (λ (s : Script). with_item l None s) (plain_lines takes none ls (offset + length l + 1) (λ k d low. all (suc k) d (omega arith)) (omega arith))
 
 library_is : joined (take 19 (slice_split is_lf library)) ≡ library
 library_is = refl
@@ -250,10 +251,10 @@ takes_none first rest is =
     let n = position_or_len is_space (first ∷ rest) in
     let two = either_none (nat_eq first 101 || nat_eq first 105) (nat_eq first 108) is in
     let one = either_none (nat_eq first 101) (nat_eq first 105) two.0 in
-    let init : is_word (take n (first ∷ rest)) (codes "init") ≡ false = head_none n 105 first rest (codes "nit") one.1 in
-    let evolve : is_word (take n (first ∷ rest)) (codes "evolve") ≡ false = head_none n 101 first rest (codes "volve") one.0 in
-    let import_word : is_word (take n (first ∷ rest)) (codes "import") ≡ false = head_none n 105 first rest (codes "mport") one.1 in
-    let load : is_word (take n (first ∷ rest)) (codes "load") ≡ false = head_none n 108 first rest (codes "oad") two.1 in
+    let init : text_eq (take n (first ∷ rest)) (codes "init") ≡ false = head_none n 105 first rest (codes "nit") one.1 in
+    let evolve : text_eq (take n (first ∷ rest)) (codes "evolve") ≡ false = head_none n 101 first rest (codes "volve") one.0 in
+    let import_word : text_eq (take n (first ∷ rest)) (codes "import") ≡ false = head_none n 105 first rest (codes "mport") one.1 in
+    let load : text_eq (take n (first ∷ rest)) (codes "load") ≡ false = head_none n 108 first rest (codes "oad") two.1 in
     rw (init, evolve, import_word, load) refl
 
 begins : takes_block (codes "init") ≡ true

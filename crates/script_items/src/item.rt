@@ -96,12 +96,12 @@ pub fn next_item<H: Host>(
     host: &mut H,
 ) -> Result<Option<Item>, LineFault>
     requires fresh { lines.old.failed ≡ false }
-    ensures item { IsTrue (H.told host.old).tells → GotItem result (script_from takes_block lines.old.place (lines.old.pending ++ (H.told host.old).left))
-        (script_from takes_block lines.new.place (lines.new.pending ++ (H.told host.new).left)) }
+    ensures item { IsTrue (H.told host.old).tells → GotItem result (script_from takes_block lines.old.offset (lines.old.pending ++ (H.told host.old).left))
+        (script_from takes_block lines.new.offset (lines.new.pending ++ (H.told host.new).left)) }
     ensures end { IsTrue (H.told host.old).tells → IfOk result (λ next. IfNone next ((H.told host.new).left ≡ [])) }
     ensures short { IfOk result (λ next. IfSome next IsShortItem) }
-    ensures advances { IfOk result (λ next. IfSome next (λ _. lines.old.place < lines.new.place)) }
-    ensures low { lines.new.place ≤ 2 ^ 40 }
+    ensures advances { IfOk result (λ next. IfSome next (λ _. lines.old.offset < lines.new.offset)) }
+    ensures low { lines.new.offset ≤ 2 ^ 40 }
     ensures fresh { OnOk result (lines.new.failed ≡ false) }
     ensures course { GoesOn (H.told host.old) (H.told host.new) }
     ensures disk { KeepsDisk (H.told host.old) (H.told host.new) }

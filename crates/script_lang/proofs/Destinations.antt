@@ -3,7 +3,8 @@ use Rattle.std.proofs.Common.{◌≡◌, ◌≢◌, ℕ, List, ◌∷◌, ◌++�
 use Rattle.edits.specs.declared.edit.Destination.{Destination}
 use Rattle.edits.specs.declared.edit.Destination.TheVariants.{Root, Inside}
 use Rattle.script_lang.specs.Left.{Left}
-use Rattle.script_lang.specs.Words.{◌>>=◌, is_word, word_at}
+use Rattle.script_lang.specs.Words.{◌>>=◌, word_at}
+use Rattle.finite_maps.specs.Equal.{text_eq}
 use Rattle.script_lang.specs.Command.{destination_from, destination_at}
 use Rattle.script_lang.specs.Spelling.{IsWord, IsDestination, destination_words}
 use Rattle.script_lang.proofs.Readings.{reads, tells, joined, ok_is, reached, word_kind, Front}
@@ -17,12 +18,12 @@ slash_is_word : IsWord (codes "/")
 slash_is_word = (omega arith, refl)
 
 -- a word that is not `/` is found to be another
-apart : (word : List ℕ) (b : Bool) → word ≢ codes "/" → is_word word (codes "/") ≡ b → b ≡ false
+apart : (word : List ℕ) (b : Bool) → word ≢ codes "/" → text_eq word (codes "/") ≡ b → b ≡ false
 apart word false other is = refl
 apart word true other is = absurd (other (same_word word (codes "/") is))
 
-not_slash : (word : List ℕ) → is_word word (codes "/") ≡ false → word ≢ codes "/"
-not_slash word other same = let e : is_word (codes "/") (codes "/") ≡ false = subst (λ w. is_word w (codes "/") ≡ false) same other in cc
+not_slash : (word : List ℕ) → text_eq word (codes "/") ≡ false → word ≢ codes "/"
+not_slash word other same = let e : text_eq (codes "/") (codes "/") ≡ false = subst (λ w. text_eq w (codes "/") ≡ false) same other in cc
 
 -- reading goes on after the words of a place
 pub destination_reads : {B : Type 0} (place : Destination) → IsDestination place
@@ -36,7 +37,7 @@ destination_reads Root is words column f y on =
 destination_reads (Inside parent feature) is words column f y on =
     in_order (word_at (record { rest = joined (parent ∷ feature ∷ words); column = column })) (λ first. destination_from first.0 first.1) f
     ∙ reads word_kind parent is.0 (feature ∷ words) column (λ first. destination_from first.0 first.1 >>= f) y
-    (λ a. rw (apart parent (is_word parent (codes "/")) is.1 refl)
+    (λ a. rw (apart parent (text_eq parent (codes "/")) is.1 refl)
     (in_order (word_at (record { rest = joined (feature ∷ words); column = a })) (λ next. Ok (Inside parent next.0, next.1)) f
     ∙ reads word_kind feature is.2 words a (λ next. Ok (Inside parent next.0, next.1) >>= f) y on))
 
@@ -50,7 +51,7 @@ placed_as : (left : Left) (is place : Destination) (a next : Left) → IsDestina
 placed_as left is place a next form stands e = subst (λ p. IsDestination p.0 × Stands left p.0 p.1) (ok_is (is, a) (place, next) e) (form, stands)
 
 first_told : (left : Left) (first : List ℕ) (a : Left) → IsWord first → Front left first a → (place : Destination) (next : Left) (b : Bool)
-    → is_word first (codes "/") ≡ b
+    → text_eq first (codes "/") ≡ b
     → cond {A = Result (Destination × Left) ℕ} b (Ok (Root, a)) (word_at a >>= λ feature. Ok (Inside first feature.0, feature.1)) ≡ Ok (place, next)
     → IsDestination place × Stands left place next
 first_told left first a is at_first place next true slash e =
@@ -64,7 +65,7 @@ destination_told : (left : Left) (place : Destination) (next : Left) → destina
 unfolding destination_at
 destination_told left place next e =
     tells word_kind left (λ first. destination_from first.0 first.1) (place, next) e (λ first a is_first at_first e1.
-    first_told left first a is_first at_first place next (is_word first (codes "/")) refl e1)
+    first_told left first a is_first at_first place next (text_eq first (codes "/")) refl e1)
 
 -- where reading went on, the words of a place stand first
 pub destination_tells : {B G : Type 0} (left : Left) (f : Destination × Left → Result B ℕ) (y : B) → (destination_at left >>= f) ≡ Ok y

@@ -5,7 +5,8 @@ use Rattle.std.specs.Fmt.{decimal}
 use Rattle.std.proofs.lemmas.Bool.{leb-true, le-leb, eqb-true}
 use Rattle.std.proofs.lemmas.List.{append-nil}
 use Rattle.script_lang.specs.Left.{Left}
-use Rattle.script_lang.specs.Words.{◌>>=◌, is_word, word_at, number_of, number_at, not_below, optional_at, optional_number_at, rest_at, rest_from}
+use Rattle.script_lang.specs.Words.{◌>>=◌, word_at, number_of, number_at, not_below, optional_at, optional_number_at, rest_at, rest_from}
+use Rattle.finite_maps.specs.Equal.{text_eq}
 use Rattle.script_lang.specs.Words.{optional_rest_at, optional_rest_from, index_or_end, index_from, index_or_end_at, number_below, moment_at, end_at}
 use Rattle.script_lang.specs.Spelling.{IsWord, IsNumber, IsMoment, IsText, IsOptionalText, IsOptionalNumber, IsOptionalWord, optional_word}
 use Rattle.script_lang.specs.Spelling.{index_word, index_if_any}
@@ -52,12 +53,12 @@ moment_kind = named_kind (number_below (2 ^ 64)) IsMoment decimal (λ n is. deci
     (λ word n e. let d = number_back (2 ^ 64) (omega arith) word n e in (d.1, d.0))
 
 -- two texts that are found equal are
-pub same_word : (xs ys : List ℕ) → is_word xs ys ≡ true → xs ≡ ys
+pub same_word : (xs ys : List ℕ) → text_eq xs ys ≡ true → xs ≡ ys
 same_word [] [] e = refl
 same_word [] (y ∷ ys) e = cc
 same_word (x ∷ xs) [] e = cc
 same_word (x ∷ xs) (y ∷ ys) e =
-    let k = both (nat_eq x y) (is_word xs ys) e in
+    let k = both (nat_eq x y) (text_eq xs ys) e in
     λ i. eqb-true x y k.0 i ∷ same_word xs ys k.1 i
 
 -- an index, or `end`
@@ -73,13 +74,13 @@ index_named : (at : Option ℕ) → IsOptionalNumber at → index_or_end (index_
 index_named None is = rw end_no_number refl
 index_named (Some n) is = rw (number_decimal (2 ^ 32) (omega arith) n is) refl
 
-end_only : (word : List ℕ) (at : Option ℕ) (b : Bool) → is_word word (codes "end") ≡ b → cond b (Some None) None ≡ Some at
+end_only : (word : List ℕ) (at : Option ℕ) (b : Bool) → text_eq word (codes "end") ≡ b → cond b (Some None) None ≡ Some at
     → IsOptionalNumber at × (word ≡ index_word at)
 end_only word at true t e = let same = some_is None at e in (subst IsOptionalNumber same tt, same_word word (codes "end") t ∙ ap index_word same)
 end_only word at false t e = cc
 
 index_only : (word : List ℕ) (o at : Option ℕ) → number_of word ≡ o → index_from o word ≡ Some at → IsOptionalNumber at × (word ≡ index_word at)
-index_only word None at is e = end_only word at (is_word word (codes "end")) refl e
+index_only word None at is e = end_only word at (text_eq word (codes "end")) refl e
 index_only word (Some n) at is e =
     let d = number_back (2 ^ 32) (omega arith) word n is in
     let same = some_is (Some n) at e in

@@ -11,11 +11,12 @@ use Rattle.script_lang.specs.declared.command.Command.TheVariants as commands
 use Rattle.edits.specs.declared.edit.Edit.{Edit}
 use Rattle.edits.specs.declared.edit.Edit.TheVariants.{Create, Delete, Set, Unset, Add, Remove, Shift, Link, Unlink, Reorder, Move}
 use Rattle.script_lang.specs.Left.{Left}
-use Rattle.script_lang.specs.Words.{is_space, is_word, word_at}
+use Rattle.script_lang.specs.Words.{is_space, word_at}
+use Rattle.finite_maps.specs.Equal.{text_eq}
 use Rattle.script_lang.specs.Command.{init_at, evolve_at, import_at, load_at, checkout_at, create_at, delete_at, move_at, set_at, unset_at, add_at}
 use Rattle.script_lang.specs.Command.{remove_at, shift_at, link_at, unlink_at, reorder_at, begin_at, end_line_at, undo_at, discard_at, tidy_at}
 use Rattle.script_lang.specs.Command.{apply_at, changes_at, show_at, cat_at, validate_at, commit_at, signed_at, branch_at, tag_at, log_at, package_at}
-use Rattle.script_lang.specs.Command.{update_at, merge_at, revert_at, drop_at, upgrade_at, chosen, feature_commands, work_commands, version_commands}
+use Rattle.script_lang.specs.Command.{update_at, merge_at, revert_at, drop_at, upgrade_at, command_of_word, feature_commands, work_commands, version_commands}
 use Rattle.script_lang.specs.Command.{command_of}
 use Rattle.script_lang.specs.Spelling.{IsWord, IsCommand, IsLineOf, CommandsHaveLines, LinesAreSpelled, edit_word, edit_fields, spec_word}
 use Rattle.script_lang.specs.Spelling.{optional_word, spaced, Spells}
@@ -156,7 +157,7 @@ line_read line commands.Upgrade spells =
     rw (line_joined line (codes "upgrade") [] spells.words) (reads word_kind (codes "upgrade") (omega arith, refl) [] 1 _ _ upgrade_read)
 
 -- a first word is the one that was looked for, or reading went on to the next
-chosen_or : (first word : List ℕ) (left : Left) (command : Command) (read next : Result Command ℕ) (b : Bool) → is_word first word ≡ b
+chosen_or : (first word : List ℕ) (left : Left) (command : Command) (read next : Result Command ℕ) (b : Bool) → text_eq first word ≡ b
     → (read ≡ Ok command → Tells word left command) → (next ≡ Ok command → Tells first left command) → cond b read next ≡ Ok command → Tells first left command
 chosen_or first word left command read next true is this other e = subst (λ w. Tells w left command) (sym (same_word first word is)) (this e)
 chosen_or first word left command read next false is this other e = other e
@@ -174,11 +175,11 @@ abbrev plain : Row → List ℕ × (Left → Result Command ℕ)
 plain row = (row.word, row.read)
 
 -- what the first word chooses is spelled after it
-chosen_spelled : (rows : List Row) (first : List ℕ) (left : Left) (command : Command) → chosen (map plain rows) first left ≡ Ok command
+chosen_spelled : (rows : List Row) (first : List ℕ) (left : Left) (command : Command) → command_of_word (map plain rows) first left ≡ Ok command
     → Tells first left command
 chosen_spelled [] first left command e = cc
 chosen_spelled (row ∷ rows) first left command e =
-    chosen_or first row.word left command (row.read left) (chosen (map plain rows) first left) (is_word first row.word) refl
+    chosen_or first row.word left command (row.read left) (command_of_word (map plain rows) first left) (text_eq first row.word) refl
     (row.spelled left command) (chosen_spelled rows first left command) e
 
 abbrev all_rows : List Row

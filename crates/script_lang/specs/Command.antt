@@ -13,7 +13,8 @@ use Rattle.model_state.specs.Names.{is_name}
 use Rattle.hex.specs.Hex.{decode_of}
 use Rattle.hex.specs.declared.error.FromHexError.{FromHexError}
 use Rattle.script_lang.specs.Words.{◌>>=◌, word_at, number_of, number_at, found_at, end_at, name_at, optional_at, optional_number_at, rest_at}
-use Rattle.script_lang.specs.Words.{optional_rest_at, index_or_end_at, moment_at, is_word, IsBad}
+use Rattle.script_lang.specs.Words.{optional_rest_at, index_or_end_at, moment_at, IsBad}
+use Rattle.finite_maps.specs.Equal.{text_eq}
 
 -- `@` and a name is a tag's
 abbrev pub tag_of : List ℕ → Option Spec
@@ -74,7 +75,7 @@ checkout_at left = do
 
 -- after the first word of a place: nothing where that is `/`, else FEATURE
 abbrev pub destination_from : List ℕ → Left → Result (Destination × Left) ℕ
-destination_from first left = if is_word first (codes "/") then Ok (Root, left) else word_at left >>= λ feature. Ok (Inside first feature.0, feature.1)
+destination_from first left = if text_eq first (codes "/") then Ok (Root, left) else word_at left >>= λ feature. Ok (Inside first feature.0, feature.1)
 
 -- the next words, which name a place: `/`, or PARENT FEATURE
 unfoldable pub destination_at : Left → Result (Destination × Left) ℕ
@@ -411,15 +412,15 @@ commands_by_word =
     (codes "move", move_at) ∷ feature_commands
 
 -- what the word chooses of these
-abbrev pub chosen : List (List ℕ × (Left → Result Command ℕ)) → List ℕ → Left → Result Command ℕ
-chosen [] word left = Err 1
-chosen (row ∷ rows) word left = if is_word word row.0 then row.1 left else chosen rows word left
+abbrev pub command_of_word : List (List ℕ × (Left → Result Command ℕ)) → List ℕ → Left → Result Command ℕ
+command_of_word [] word left = Err 1
+command_of_word (row ∷ rows) word left = if text_eq word row.0 then row.1 left else command_of_word rows word left
 
 -- a whole line: the first word names the command
 unfoldable pub command_of : List ℕ → Result Command ℕ
 command_of line = do
   first ← word_at (record { rest = Some line; column = 1 })
-  chosen commands_by_word first.0 first.1
+  command_of_word commands_by_word first.0 first.1
 
 -- a call gave the command that reading gives, or its column
 abbrev pub GivesCommand : Result Command ParseFault → Result Command ℕ → Type 0

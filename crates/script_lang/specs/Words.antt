@@ -1,15 +1,15 @@
 -- The words of a line, with the column of the first that does not fit.
-use Rattle.std.specs.Prelude.{◌≡◌, ℕ, ◌+◌, ◌-◌, ◌^◌, ◌==◌, ◌&&◌, ◌||◌, not, codes, nat_eq, Bool, nat_lt, nat_le, List, [], ◌∷◌, length, slice_index}
+use Rattle.std.specs.Prelude.{◌≡◌, ℕ, ◌+◌, ◌-◌, ◌^◌, ◌==◌, ◌&&◌, ◌||◌, not, codes, Bool, nat_lt, nat_le, List, [], ◌∷◌, length, slice_index}
 use Rattle.std.specs.Prelude.{Option, Some, None, Result, Ok, Err, if◌then◌else◌}
 use Rattle.std.specs.List.{before_first, after_first, list_all}
 use Rattle.std.specs.Char.{is_ascii_digit}
 use Rattle.std.specs.Str.Parse.{digits_value}
 use Rattle.std.specs.Borrow.{Bor}
-use Rattle.std.specs.Cmp.Lexicographic.{pointwise}
 use Rattle.script_lang.specs.declared.fault.ParseFault.{ParseFault}
 use Rattle.script_lang.specs.declared.fault.ParseFault.TheVariants.{BadLine, Memory}
 use Rattle.model_state.specs.Names.{is_name}
 use Rattle.script_lang.specs.Left.{Left, left_of}
+use Rattle.finite_maps.specs.Equal.{text_eq}
 
 -- one reading after another; the first that does not fit gives its column
 infixl 10 ◌>>=◌
@@ -86,10 +86,6 @@ end_from (Some rest) column = Err column
 abbrev pub end_at : Left → Result (Unit {0}) ℕ
 end_at left = end_from left.rest left.column
 
--- two texts are one
-abbrev pub is_word : List ℕ → List ℕ → Bool
-is_word = pointwise nat_eq
-
 -- the next word, a name
 unfoldable pub name_at : Left → Result (List ℕ × Left) ℕ
 name_at left = do
@@ -136,7 +132,7 @@ optional_rest_at left = optional_rest_from left.rest left
 -- the index, or none where the word is `end`
 abbrev pub index_from : Option ℕ → List ℕ → Option (Option ℕ)
 index_from (Some index) word = Some (Some index)
-index_from None word = if is_word word (codes "end") then Some None else None
+index_from None word = if text_eq word (codes "end") then Some None else None
 
 -- an index, or none for the word `end`
 abbrev pub index_or_end : List ℕ → Option (Option ℕ)

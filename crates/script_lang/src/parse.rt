@@ -1,7 +1,7 @@
 //! A line as a command: one private function a command.
 ghost use Rattle.std.specs.Prelude.{◌≡◌, ◌-◌, ◌<◌, ◌^◌, length, IfOk, IfNone, IfSome, None, Some};
 ghost use Rattle.script_lang.specs.Words.{Gives};
-ghost use Rattle.script_lang.specs.Command.{GivesCommand, GivesSpec, command_of, chosen, feature_commands, work_commands, version_commands, init_at, evolve_at, import_at, load_at, checkout_at, create_at, delete_at, move_at, destination_at, set_at, unset_at, add_at, remove_at, shift_at, link_at, unlink_at, reorder_at, begin_at, end_line_at, undo_at, discard_at, tidy_at, apply_at, bytes_at, changes_at, show_at, cat_at, validate_at, commit_at, signed_at, branch_at, tag_at, log_at, package_at, update_at, merge_at, revert_at, drop_at, upgrade_at, spec_of, spec_at, tag_of};
+ghost use Rattle.script_lang.specs.Command.{GivesCommand, GivesSpec, command_of, command_of_word, feature_commands, work_commands, version_commands, init_at, evolve_at, import_at, load_at, checkout_at, create_at, delete_at, move_at, destination_at, set_at, unset_at, add_at, remove_at, shift_at, link_at, unlink_at, reorder_at, begin_at, end_line_at, undo_at, discard_at, tidy_at, apply_at, bytes_at, changes_at, show_at, cat_at, validate_at, commit_at, signed_at, branch_at, tag_at, log_at, package_at, update_at, merge_at, revert_at, drop_at, upgrade_at, spec_of, spec_at, tag_of};
 ghost use Rattle.script_lang.specs.declared.command.Spec.TheVariants.{Tag};
 
 use crate::words::{Words, bad_line, number_of};
@@ -41,7 +41,7 @@ pub fn parse_line(alloc: Global, line: &str) -> Result<Command, ParseFault>
 /// The command that a line spells whose first word names an edit of a feature, or stands after those in the table.
 #[tactic(auto, unfolding(crate::specs::Command::feature_commands))]
 fn feature_line(alloc: Global, word: &str, words: &mut Words<'_>) -> Result<Command, ParseFault>
-    ensures { GivesCommand result (chosen feature_commands word.now words.old) }
+    ensures { GivesCommand result (command_of_word feature_commands word.now words.old) }
 {
     match word {
         "set" => set(alloc, words),
@@ -59,7 +59,7 @@ fn feature_line(alloc: Global, word: &str, words: &mut Words<'_>) -> Result<Comm
 /// The same of the commands of a workspace's local work and of what is shown, and of those after them.
 #[tactic(auto, unfolding(crate::specs::Command::work_commands))]
 fn work_line(alloc: Global, word: &str, words: &mut Words<'_>) -> Result<Command, ParseFault>
-    ensures { GivesCommand result (chosen work_commands word.now words.old) }
+    ensures { GivesCommand result (command_of_word work_commands word.now words.old) }
 {
     match word {
         "begin" => begin(alloc, words),
@@ -79,7 +79,7 @@ fn work_line(alloc: Global, word: &str, words: &mut Words<'_>) -> Result<Command
 /// The same of the commands by which versions are shared: the last of the table.
 #[tactic(auto, unfolding(crate::specs::Command::version_commands))]
 fn version_line(alloc: Global, word: &str, words: &mut Words<'_>) -> Result<Command, ParseFault>
-    ensures { GivesCommand result (chosen version_commands word.now words.old) }
+    ensures { GivesCommand result (command_of_word version_commands word.now words.old) }
 {
     match word {
         "commit" => commit(alloc, words),

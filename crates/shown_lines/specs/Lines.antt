@@ -7,7 +7,7 @@ use Rattle.ecore_meta.specs.Typing.{kind_of}
 use Rattle.ecore_meta.specs.declared.meta.Kind.{Kind}
 use Rattle.ecore_meta.specs.declared.meta.Kind.TheVariants.{Attr, AttrMany, Bounded, Free, Contains, Container, Skip}
 use Rattle.ecore_meta.specs.declared.meta.Value.{Value}
-use Rattle.emfjson_io.specs.Values.{value_text}
+use Rattle.emfjson_values.specs.Values.{value_text}
 use Rattle.model_state.specs.Packages.{steps_of}
 use Rattle.model_state.specs.declared.operation.OpKind.{OpKind}
 use Rattle.model_state.specs.declared.operation.OpKind.TheVariants as kinds
@@ -37,18 +37,18 @@ abbrev pub feature_name : Meta → ℕ → List ℕ
 feature_name meta f = name_at meta.features f
 
 -- the text of a value of a feature of the kind, empty where such a feature has no values
-abbrev pub text_of : Meta → Kind → Value → List ℕ
-text_of meta (Attr scalar default) v = value_text meta scalar v
-text_of meta (AttrMany scalar unique) v = value_text meta scalar v
-text_of meta (Bounded target opposite) v = []
-text_of meta (Free target opposite) v = []
-text_of meta (Contains target opposite) v = []
-text_of meta (Container target opposite) v = []
-text_of meta Skip v = []
+abbrev pub shown_text : Meta → Kind → Value → List ℕ
+shown_text meta (Attr scalar default) v = value_text meta scalar v
+shown_text meta (AttrMany scalar unique) v = value_text meta scalar v
+shown_text meta (Bounded target opposite) v = []
+shown_text meta (Free target opposite) v = []
+shown_text meta (Contains target opposite) v = []
+shown_text meta (Container target opposite) v = []
+shown_text meta Skip v = []
 
 -- the text of a value of the feature of that number
 abbrev pub value_word : Meta → ℕ → Value → List ℕ
-value_word meta f v = text_of meta (kind_of meta f) v
+value_word meta f v = shown_text meta (kind_of meta f) v
 
 -- `/` for the root, else the parent, `/` and the feature that the element stands in
 abbrev pub place_word : Meta → Place → List ℕ

@@ -29,7 +29,7 @@ abbrev pub state_size : Meta → State → ℕ
 state_size meta m = length (state_encoding meta m)
 
 -- the bytes are a package's, whose operations lead to the state from the empty project
-pub record IsStateForm (meta : Meta) (m : State) (bytes : List ℕ) : Type 0 where
+pub record IsStateEncoding (meta : Meta) (m : State) (bytes : List ℕ) : Type 0 where
   pub operations : List Operation
   pub spelled : IsPackage operations
   pub is : bytes ≡ package_encoding operations

@@ -5,7 +5,7 @@ ghost use Rattle.model_state.specs.declared.operation.OpKind.TheVariants.{Create
 ghost use Rattle.model_state.specs.declared.operation.Operation.TheVariants.{Simple};
 ghost use Rattle.op_form.specs.Formed.{IsPackage};
 ghost use Rattle.op_form.specs.Packages.{package_encoding};
-ghost use Rattle.state_form.specs.Form.{as_package, state_encoding, state_size, IsStateForm};
+ghost use Rattle.state_form.specs.Form.{as_package, state_encoding, state_size, IsStateEncoding};
 ghost use Rattle.state_form.specs.Spelled.{IsSpelled};
 
 use ecore_meta::{CompactList, Metamodel};
@@ -57,7 +57,7 @@ pub fn encode_state<L: Look>(
     requires good { Good meta.now (L.state look.now) }
     requires spelled { IsSpelled meta.now (L.state look.now) }
     ensures bytes { IfOk result (λ found. IfSome found (λ bytes. bytes.items ≡ state_encoding meta.now (L.state look.now))) }
-    ensures form { IfOk result (λ found. IfSome found (λ bytes. IsStateForm meta.now (L.state look.now) bytes.items)) }
+    ensures form { IfOk result (λ found. IfSome found (λ bytes. IsStateEncoding meta.now (L.state look.now) bytes.items)) }
     ensures none { IfOk result (λ found. IfNone found (2 ^ 32 ≤ state_size meta.now (L.state look.now))) }
 {
     meta.recall_soundness();

@@ -22,7 +22,7 @@ use Rattle.model_state.proofs.Orders.{id_order, row_order}
 use Rattle.model_state.proofs.StepTests.{place_equality}
 use Rattle.step_apply.specs.declared.groups.Groups.{Groups}
 use Rattle.ranked_lists.specs.Ranks.{stood, Ranks}
-use Rattle.step_apply.specs.Groups.{members_of, arriving, IsGrouped, IsOut, IsInto}
+use Rattle.step_apply.specs.Groups.{members_of, incoming_rows, IsGrouped, IsOut, HoldIncoming}
 use Rattle.step_apply.proofs.Grouped.{no_items}
 
 pub no_row : (t : BTreeMap RowKey ℕ) → btree_map_len t ≡ 0 → (k : RowKey) → get (table row_cmp t) k ≡ None
@@ -55,9 +55,9 @@ none_inside t g is e none =
         (sym (is (Inside a f) q) ∙ ap (λ z. get (members_of g.inside z f) q) (sym (text_equality.exact e a like)) ∙ none f q))
 
 -- no row begins or ends at an element without lists
-pub none_at : (t : BTreeMap RowKey ℕ) (o : BTreeMap IdBytes (BTreeMap ℕ Ranks)) (i : BTreeMap IdBytes (BTreeMap RowKey ℕ)) → IsOut t o → IsInto t i
+pub none_at : (t : BTreeMap RowKey ℕ) (o : BTreeMap IdBytes (BTreeMap ℕ Ranks)) (i : BTreeMap IdBytes (BTreeMap RowKey ℕ)) → IsOut t o → HoldIncoming t i
     → (e : IdBytes)
-    → ((f : ℕ) (b : IdBytes) → get (members_of o e f) b ≡ None) → ((k : RowKey) → get (arriving i e) k ≡ None)
+    → ((f : ℕ) (b : IdBytes) → get (members_of o e f) b ≡ None) → ((k : RowKey) → get (incoming_rows i e) k ≡ None)
     → 0 ≡ count (λ (x : RowKey × ℕ). text_eq e x.0.0 || text_eq e x.0.2) (table row_cmp t)
 none_at t o i out into e none none' =
     sym (count_none row_order (λ (x : RowKey × ℕ). text_eq e x.0.0 || text_eq e x.0.2) (table row_cmp t)

@@ -46,9 +46,9 @@ rows_of None = empty
 rows_of (Some t) = table row_cmp t
 
 -- those to the element of that id
-abbrev pub arriving : BTreeMap IdBytes (BTreeMap RowKey ℕ) → IdBytes → FinMap row_cmp ℕ
-arriving t b = rows_of (tree.get id_cmp t b)
+abbrev pub incoming_rows : BTreeMap IdBytes (BTreeMap RowKey ℕ) → IdBytes → FinMap row_cmp ℕ
+incoming_rows t b = rows_of (tree.get id_cmp t b)
 
 -- the rows are held by target
-abbrev pub IsInto : BTreeMap RowKey ℕ → BTreeMap IdBytes (BTreeMap RowKey ℕ) → Type 0
-IsInto t into = (b : IdBytes) (k : RowKey) → get (arriving into b) k ≡ cond (text_eq b k.2) (tree.get row_cmp t k) None
+abbrev pub HoldIncoming : BTreeMap RowKey ℕ → BTreeMap IdBytes (BTreeMap RowKey ℕ) → Type 0
+HoldIncoming t into = (b : IdBytes) (k : RowKey) → get (incoming_rows into b) k ≡ cond (text_eq b k.2) (tree.get row_cmp t k) None

@@ -6,7 +6,7 @@ ghost use Rattle.std.specs.BTreeMap.{IsOrdered};
 ghost use Rattle.std.specs.FinMap.{get, empty};
 ghost use Rattle.finite_maps.specs.Maps.{set, count};
 ghost use Rattle.finite_maps.specs.Tables.{table};
-ghost use Rattle.step_apply.specs.Groups.{arriving, members_of, IsOut, IsInto};
+ghost use Rattle.step_apply.specs.Groups.{incoming_rows, members_of, IsOut, HoldIncoming};
 ghost use Rattle.finite_maps.specs.Equal.{text_eq};
 ghost use Rattle.model_state.specs.Keys.{IdBytes, RowKey, row_cmp};
 ghost use Rattle.model_state.specs.Listing.{row_incoming, last_rank, targets, incoming};
@@ -66,8 +66,8 @@ fn write_to(
     key: &(Id, u32, Id),
     rank: Option<u64>,
 )
-    ensures here { is_some (get (arriving into.old b.now) key.now) ≡ true → arriving into.new b.now ≡ set (arriving into.old b.now) key.now rank }
-    ensures there { (x : IdBytes) → text_eq b.now x ≡ false → arriving into.new x ≡ arriving into.old x }
+    ensures here { is_some (get (incoming_rows into.old b.now) key.now) ≡ true → incoming_rows into.new b.now ≡ set (incoming_rows into.old b.now) key.now rank }
+    ensures there { (x : IdBytes) → text_eq b.now x ≡ false → incoming_rows into.new x ≡ incoming_rows into.old x }
 {
     if let Some(rows) = into.get_mut(b) {
         rewrite_row(rows, key, rank);
@@ -76,7 +76,7 @@ fn write_to(
 
 /// Whether no row ends at the element.
 fn is_no_target(into: &BTreeMap<Id, BTreeMap<(Id, u32, Id), u64>>, b: &Id) -> bool
-    ensures { result ≡ true → (k : RowKey) → get (arriving into.now b.now) k ≡ None }
+    ensures { result ≡ true → (k : RowKey) → get (incoming_rows into.now b.now) k ≡ None }
 {
     match into.get(b) {
         None => true,
@@ -86,7 +86,7 @@ fn is_no_target(into: &BTreeMap<Id, BTreeMap<(Id, u32, Id), u64>>, b: &Id) -> bo
 
 /// Drops the map of the rows to an element, where there are none.
 fn clear_to(into: &mut BTreeMap<Id, BTreeMap<(Id, u32, Id), u64>>, b: &Id)
-    ensures { (x : IdBytes) → arriving into.new x ≡ arriving into.old x }
+    ensures { (x : IdBytes) → incoming_rows into.new x ≡ incoming_rows into.old x }
 {
     if is_no_target(into, b) {
         into.remove(b);
@@ -100,8 +100,8 @@ fn rewrite_to(
     key: &(Id, u32, Id),
     rank: Option<u64>,
 )
-    ensures here { is_some (get (arriving into.old b.now) key.now) ≡ true → arriving into.new b.now ≡ set (arriving into.old b.now) key.now rank }
-    ensures there { (x : IdBytes) → text_eq b.now x ≡ false → arriving into.new x ≡ arriving into.old x }
+    ensures here { is_some (get (incoming_rows into.old b.now) key.now) ≡ true → incoming_rows into.new b.now ≡ set (incoming_rows into.old b.now) key.now rank }
+    ensures there { (x : IdBytes) → text_eq b.now x ≡ false → incoming_rows into.new x ≡ incoming_rows into.old x }
 {
     write_to(into, b, key, rank);
     clear_to(into, b);
@@ -115,9 +115,9 @@ fn put_to(
     key: (Id, u32, Id),
     rank: u64,
 ) -> Result<(), AllocError>
-    ensures here { OnOk result (arriving into.new b.now ≡ set (arriving into.old b.now) key (Some rank)) }
-    ensures there { (x : IdBytes) → text_eq b.now x ≡ false → arriving into.new x ≡ arriving into.old x }
-    ensures err { OnErr result (arriving into.new b.now ≡ arriving into.old b.now) }
+    ensures here { OnOk result (incoming_rows into.new b.now ≡ set (incoming_rows into.old b.now) key (Some rank)) }
+    ensures there { (x : IdBytes) → text_eq b.now x ≡ false → incoming_rows into.new x ≡ incoming_rows into.old x }
+    ensures err { OnErr result (incoming_rows into.new b.now ≡ incoming_rows into.old b.now) }
 {
     let own = b.copy(alloc)?;
     match into.get_mut(b) {
@@ -141,9 +141,9 @@ fn arrive(
     key: &(Id, u32, Id),
     rank: u64,
 ) -> Result<(), AllocError>
-    ensures here { OnOk result (arriving into.new key.now.2 ≡ set (arriving into.old key.now.2) key.now (Some rank)) }
-    ensures there { (x : IdBytes) → text_eq key.now.2 x ≡ false → arriving into.new x ≡ arriving into.old x }
-    ensures err { OnErr result (arriving into.new key.now.2 ≡ arriving into.old key.now.2) }
+    ensures here { OnOk result (incoming_rows into.new key.now.2 ≡ set (incoming_rows into.old key.now.2) key.now (Some rank)) }
+    ensures there { (x : IdBytes) → text_eq key.now.2 x ≡ false → incoming_rows into.new x ≡ incoming_rows into.old x }
+    ensures err { OnErr result (incoming_rows into.new key.now.2 ≡ incoming_rows into.old key.now.2) }
 {
     let own = row_key(alloc, &key.0, key.1, &key.2)?;
     put_to(alloc, into, &key.2, own, rank)
@@ -175,7 +175,7 @@ fn put_row(
     rank: u64,
 ) -> Result<(), AllocError>
     ensures out { IsOut tree.old out.old → IsOut tree.new out.new }
-    ensures into { IsInto tree.old into.old → IsInto tree.new into.new }
+    ensures into { HoldIncoming tree.old into.old → HoldIncoming tree.new into.new }
     ensures ok { OnOk result (table row_cmp tree.new ≡ set (table row_cmp tree.old) key (Some rank)) }
     ensures err { OnErr result (tree.new.entries ≡ tree.old.entries) }
 {
@@ -231,7 +231,7 @@ impl Model for Rows {
     ghost use Rattle.step_apply.specs.Spots.{RowRanks, ranks_code};
     ghost use Rattle.finite_maps.specs.Tables.{table};
     ghost use Rattle.model_state.specs.Keys.{row_cmp};
-    ghost use Rattle.step_apply.specs.Groups.{IsOut, IsInto};
+    ghost use Rattle.step_apply.specs.Groups.{IsOut, HoldIncoming};
 
     ghost Value = { RowRanks };
 
@@ -239,7 +239,7 @@ impl Model for Rows {
 
     ghost view = { λ a. table row_cmp a.tree };
 
-    ghost invariant = { λ a. IsOut a.tree a.out × IsInto a.tree a.into };
+    ghost invariant = { λ a. IsOut a.tree a.out × HoldIncoming a.tree a.into };
 }
 
 impl Rows {

@@ -45,7 +45,7 @@ module _ (entry now : Told) (course : GoesOn entry now) (said : KeepsSaid entry 
   unopened SayFault cause never damaged header = absurd (never refl)
   unopened (Damaged at) cause never damaged header = record {
     ends = λ told. record {
-      place = (damaged told).0;
+      offset = (damaged told).0;
       no_events = (damaged told).1;
       said = inl (record { none = header told; said = said_kept_now entry now course said told });
     };
@@ -81,9 +81,9 @@ unprintable_first entry now events stood found =
     let made = found.events in
     let event = found.event in
     let longer : 17 < length (disk_now entry).now =
-    long_with_record (disk_now entry).now (map event_encoding made) (event_encoding event) found.place
-    (subst (λ (l : List (List ℕ)). ReadsTo (disk_now entry).now l found.place) (map-more made event) found.reads) in
-    let rest = stands_first entry (made ++ event ∷ []) events found.place found.reads found.playable longer stood.forms stood.playable in
+    long_with_record (disk_now entry).now (map event_encoding made) (event_encoding event) found.offset
+    (subst (λ (l : List (List ℕ)). ReadsTo (disk_now entry).now l found.offset) (map-more made event) found.reads) in
+    let rest = stands_first entry (made ++ event ∷ []) events found.offset found.reads found.playable longer stood.forms stood.playable in
     let events_is : events ≡ made ++ event ∷ rest.0 = rest.1 ∙ append_assoc made (event ∷ []) rest.0 in
     let said_is : said_of_all empty events ≡ script_again made ++ said_of (played play empty made) event =
     ap (said_of_all empty) events_is ∙ said-front empty made (event ∷ rest.0) found.printable

@@ -18,7 +18,7 @@ use Rattle.replay_laws.specs.Scripts.{script_again, are_printable}
 use Rattle.store_session.specs.declared.answered.SessionFault.{SessionFault}
 use Rattle.store_session.specs.declared.answered.SessionFault.TheVariants.{DiskFault, SayFault, Damaged, Memory}
 use Rattle.store_session.specs.Opening.{IsMounting, IsOpenedSince, PlaysEvent}
-use Rattle.store_session.specs.Session.{AtDamage, IsReplayed, IsStoreOf}
+use Rattle.store_session.specs.Session.{AtDamage, IsPlayedUpTo, IsStoreOf}
 use Rattle.store_session.specs.State.{OpeningState}
 use Rattle.store_session.proofs.Reading.{damage_since, is_long, long_with_record, since_on, stood_since}
 use Rattle.store_session.specs.Endings.{session_status}
@@ -49,7 +49,7 @@ keeps_on entry a b since before course disk kept told =
 -- the events that were read so far: a script can hold each of them, and it was printed
 pub record HasPrinted (entry now : Told) (opening : OpeningState) : Type 0 where
   pub made : List Event
-  pub replayed : IsReplayed (disk_now now) opening.state opening.next made
+  pub replayed : IsPlayedUpTo (disk_now now) opening.state opening.next made
   pub printable : are_printable empty made ≡ true
   pub said : said_now now ≡ said_now entry ++ script_again made
 
@@ -65,7 +65,7 @@ pub record Walks (entry now : Told) (opening : OpeningState) : Type 0 where
 
 -- before the first event
 pub begins : (entry now : Told) (opening : OpeningState) → opening.state.end ≡ opening.next → GoesOn entry now → KeepsSaid entry now → KeepsInput entry now
-    → IsOpenedSince entry now → (IsTrue entry.tells → IsReplayed (disk_now now) opening.state opening.next []) → Walks entry now opening
+    → IsOpenedSince entry now → (IsTrue entry.tells → IsPlayedUpTo (disk_now now) opening.state opening.next []) → Walks entry now opening
 begins entry now opening at course said input since replayed = record {
   at = at;
   course = course;
@@ -82,10 +82,10 @@ begins entry now opening at course said input since replayed = record {
 }
 
 -- a file of more than 17 bytes reads as it did at the entry
-reads_at_entry : (entry b : Told) (forms : List (List ℕ)) (place : ℕ) → 17 < length (disk_now b).now → MountedFrom (disk_now entry).now (disk_now b).now
-    → ReadsTo (disk_now b).now forms place → ReadsTo (disk_now entry).now forms place
-reads_at_entry entry b forms place long (inl same) reads = subst (λ (l : List ℕ). ReadsTo l forms place) same.1 reads
-reads_at_entry entry b forms place long (inr fresh) reads = absurd (omega (arith, long, ap length fresh.1, length-new_file))
+reads_at_entry : (entry b : Told) (forms : List (List ℕ)) (offset : ℕ) → 17 < length (disk_now b).now → MountedFrom (disk_now entry).now (disk_now b).now
+    → ReadsTo (disk_now b).now forms offset → ReadsTo (disk_now entry).now forms offset
+reads_at_entry entry b forms offset long (inl same) reads = subst (λ (l : List ℕ). ReadsTo l forms offset) same.1 reads
+reads_at_entry entry b forms offset long (inr fresh) reads = absurd (omega (arith, long, ap length fresh.1, length-new_file))
 
 -- ---- calls that print nothing
 module _ (entry a b : Told) (opening : OpeningState) (walks : Walks entry a opening)
@@ -122,7 +122,7 @@ module _ (entry a b : Told) (opening : OpeningState) (walks : Walks entry a open
       let had = walks.printed told in
       let at_entry = damage_since entry a walks.since told at damage in
       record {
-        place = at_entry.0;
+        offset = at_entry.0;
         no_events = at_entry.1;
         said = inr (record {
           events = had.made;
@@ -138,7 +138,7 @@ module _ (entry a b : Told) (opening : OpeningState) (walks : Walks entry a open
   pub faulted : (fault : SessionFault) → (fault ≡ DiskFault → Rose a.disk_faults b.disk_faults) → fault ≢ SayFault
       → AtDamage fault (λ at. IsTrue a.tells → IsDamaged (disk_now a).now at × StandsForNoEvents (disk_now a).now) → AtDamage fault (λ at. at ≡ opening.next)
       → IsReplay entry b (session_status fault)
-  faulted DiskFault cause never damaged place = record {
+  faulted DiskFault cause never damaged offset = record {
     ends = λ told. tt;
     part = part_b;
     moments = moments_b;
@@ -147,9 +147,9 @@ module _ (entry a b : Told) (opening : OpeningState) (walks : Walks entry a open
     input = input_b;
     course = course_b;
   }
-  faulted SayFault cause never damaged place = absurd (never refl)
-  faulted (Damaged at) cause never damaged place = record {
-    ends = λ told. found_broken at told (damaged (told_next entry a walks.course told)) place;
+  faulted SayFault cause never damaged offset = absurd (never refl)
+  faulted (Damaged at) cause never damaged offset = record {
+    ends = λ told. found_broken at told (damaged (told_next entry a walks.course told)) offset;
     part = part_b;
     moments = moments_b;
     long = since_b.long;
@@ -157,11 +157,11 @@ module _ (entry a b : Told) (opening : OpeningState) (walks : Walks entry a open
     input = input_b;
     course = course_b;
   }
-  faulted Memory cause never damaged place = ends_there
+  faulted Memory cause never damaged offset = ends_there
 
   -- the closed gate is found
   pub closed : (state : State)
-      → (IsTrue a.tells → (made : List Event) → IsReplayed (disk_now a) opening.state opening.next made → IsStoreOf (disk_now b) state made)
+      → (IsTrue a.tells → (made : List Event) → IsPlayedUpTo (disk_now a) opening.state opening.next made → IsStoreOf (disk_now b) state made)
       → IsReplay entry b ends.Accepted
   closed state store = record {
     ends = λ told.
@@ -184,20 +184,20 @@ is_played a b old new bytes after plays is =
     record { before = old.state; event = plays.event; spelt = plays.spelt; made = record { could = plays.could; state_is = is ∙ plays.state_is } }
 
 -- the file reads as the events so far and this one
-reads_more : (b : Told) (opening next : OpeningState) (made : List Event) (event : Event) → IsReplayed (disk_now b) next.state next.next (made ++ event ∷ [])
+reads_more : (b : Told) (opening next : OpeningState) (made : List Event) (event : Event) → IsPlayedUpTo (disk_now b) next.state next.next (made ++ event ∷ [])
     → 17 < length (disk_now b).now
 reads_more b opening next made event replayed =
     long_with_record (disk_now b).now (map event_encoding made) (event_encoding event) next.next
     (subst (λ (l : List (List ℕ)). ReadsTo (disk_now b).now l next.next) (map-more made event) replayed.walked.reads)
 
 -- what the file stands for begins with them
-pub stands_first : (b : Told) (made events : List Event) (place : ℕ)
-    → ReadsTo (disk_now b).now (map event_encoding made) place → IsTrue (are_playable empty made)
+pub stands_first : (b : Told) (made events : List Event) (offset : ℕ)
+    → ReadsTo (disk_now b).now (map event_encoding made) offset → IsTrue (are_playable empty made)
     → 17 < length (disk_now b).now → StandsFor (disk_now b).now (map event_encoding events) → IsTrue (are_playable empty events)
     → (rest : List Event) × (events ≡ made ++ rest)
-stands_first b made events place reads had long (inl few) could = absurd (omega (arith, long, few.0))
-stands_first b made events place reads had long (inr many) could =
-    let more = reads_first (disk_now b).now (map event_encoding made) (map event_encoding events) place many.1.0 reads many.1.1 in
+stands_first b made events offset reads had long (inl few) could = absurd (omega (arith, long, few.0))
+stands_first b made events offset reads had long (inr many) could =
+    let more = reads_first (disk_now b).now (map event_encoding made) (map event_encoding events) offset many.1.0 reads many.1.1 in
     first_events empty events made more.0 could had more.1
 
 module _ (entry a b : Told) (opening : OpeningState) (walks : Walks entry a opening)
@@ -206,7 +206,7 @@ module _ (entry a b : Told) (opening : OpeningState) (walks : Walks entry a open
   abbrev made_of : IsTrue entry.tells → List Event
   made_of told = (walks.printed told).made
 
-  replayed_b : (told : IsTrue entry.tells) → IsReplayed (disk_now b) next.state next.next (made_of told ++ plays.event ∷ [])
+  replayed_b : (told : IsTrue entry.tells) → IsPlayedUpTo (disk_now b) next.state next.next (made_of told ++ plays.event ∷ [])
   replayed_b told = plays.replayed (told_next entry a walks.course told) (made_of told) (walks.printed told).replayed
 
   state_was : (told : IsTrue entry.tells) → opening.state ≡ played play empty (made_of told)
@@ -296,7 +296,7 @@ module _ (entry a b : Told) (opening : OpeningState) (walks : Walks entry a open
         ends = λ told. record {
           events = made_of told;
           event = plays.event;
-          place = next.next;
+          offset = next.next;
           playable = (replayed_b told).playable;
           reads = reads_at_entry entry b (map event_encoding (made_of told ++ plays.event ∷ [])) next.next (long_b told)
               (since_b'.file told) (replayed_b told).walked.reads;
@@ -325,7 +325,7 @@ module _ (entry a b : Told) (opening : OpeningState) (walks : Walks entry a open
             let can : can_print (played play empty made) plays.event ≡ true = ap (λ (s : State). can_print s plays.event) (sym (state_was told)) ∙ print in
             record {
               made = made ++ plays.event ∷ [];
-              replayed = subst (λ (d : Disk). IsReplayed d next.state next.next (made ++ plays.event ∷ []))
+              replayed = subst (λ (d : Disk). IsPlayedUpTo d next.state next.next (made ++ plays.event ∷ []))
                   (sym (kept_now b c course_c disk_c (told_next entry b (course_b entry a b opening walks course disk said input) told))) (replayed_b told);
               printable = printable-more empty made plays.event (walks.printed told).printable can;
               said = said_c told ∙ ap (λ (l : List ℕ). said_now entry ++ (script_again made ++ l)) (said_held (played play empty made) plays.event can)

@@ -51,7 +51,7 @@ pub record IsHeadless (before now : Told) (at : ℕ) : Type 0 where
 
 -- the file is damaged at that offset, and the script of the events before it was printed
 pub record IsFoundBroken (before now : Told) (at : ℕ) : Type 0 where
-  pub place : IsDamaged (disk_now before).now at
+  pub offset : IsDamaged (disk_now before).now at
   pub no_events : StandsForNoEvents (disk_now before).now
   pub said : IsHeadless before now at ⊎ IsToldUpTo before now at
 
@@ -60,9 +60,9 @@ pub record IsFoundBroken (before now : Told) (at : ℕ) : Type 0 where
 pub record IsFoundUnprintable (before now : Told) : Type 0 where
   pub events : List Event
   pub event : Event
-  pub place : ℕ
+  pub offset : ℕ
   pub playable : IsTrue (are_playable empty (events ++ event ∷ []))
-  pub reads : ReadsTo (disk_now before).now (map event_encoding (events ++ event ∷ [])) place
+  pub reads : ReadsTo (disk_now before).now (map event_encoding (events ++ event ∷ [])) offset
   pub printable : are_printable empty events ≡ true
   pub unprintable : can_print (played play empty events) event ≡ false
   pub said : said_now now ≡ said_now before ++ (script_again events ++ said_of (played play empty events) event)

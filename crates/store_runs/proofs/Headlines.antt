@@ -234,7 +234,7 @@ module _ (entry a : Told) (fault : SessionFault) (never : fault ≡ session.SayF
       go (session.Damaged b) d e =
           let same : b ≡ at = cc in
           record {
-            place = λ told. subst (λ (n : ℕ). IsDamaged (disk_now entry).now n) same (d told).0;
+            offset = λ told. subst (λ (n : ℕ). IsDamaged (disk_now entry).now n) same (d told).0;
             no_events = λ told. (d told).1;
             file =
                 λ told. file_reads entry a (long (is_long (disk_now entry).now (d told).1)) told;

@@ -41,26 +41,26 @@ pub record Between (rule : State → Item → Answer Event) (entry now : Told) (
   pub end : task.end ≡ end_of left.fault (refused || refuses (answers rule play state left.items))
 
 -- where the loop stands: the reader's place and its bytes at hand, the repository's state, and whether the session is broken
-pub record Serving (rule : State → Item → Answer Event) (entry now : Told) (s0 : State) (whole : Script) (failed : Bool) (place : ℕ)
+pub record Serving (rule : State → Item → Answer Event) (entry now : Told) (s0 : State) (whole : Script) (failed : Bool) (offset : ℕ)
     (pending : List ℕ) (refused : Bool) (state : State) (broken : Bool) : Type 0 where
   pub fresh : failed ≡ false
   pub unbroken : broken ≡ false
   pub course : GoesOn entry now
   pub holds : IsTrue entry.tells → (made : List Event) × IsStoreOf (disk_now now) state made
   pub going : IsTrue entry.tells → (made : List Event) → IsStoreOf (disk_now entry) s0 made
-      → Between rule entry now made (serving_by rule s0 whole) (script_from takes_block place (pending ++ now.left)) state refused
+      → Between rule entry now made (serving_by rule s0 whole) (script_from takes_block offset (pending ++ now.left)) state refused
 
-pub serving_starts : (rule : State → Item → Answer Event) (entry : Told) (s0 : State) (failed : Bool) (place : ℕ) (pending : List ℕ) (broken : Bool)
+pub serving_starts : (rule : State → Item → Answer Event) (entry : Told) (s0 : State) (failed : Bool) (offset : ℕ) (pending : List ℕ) (broken : Bool)
     → failed ≡ false → broken ≡ false
     → (IsTrue entry.tells → (made : List Event) × IsStoreOf (disk_now entry) s0 made)
-    → Serving rule entry entry s0 (script_from takes_block place (pending ++ entry.left)) failed place pending false s0 broken
-serving_starts rule entry s0 failed place pending broken fresh unbroken holds = record {
+    → Serving rule entry entry s0 (script_from takes_block offset (pending ++ entry.left)) failed offset pending false s0 broken
+serving_starts rule entry s0 failed offset pending broken fresh unbroken holds = record {
   fresh = fresh;
   unbroken = unbroken;
   course = course_still entry;
   holds = holds;
   going = λ told made rest. record {
-    going = begins StandsForEvents entry made (answers rule play s0 (script_from takes_block place (pending ++ entry.left)).items)
+    going = begins StandsForEvents entry made (answers rule play s0 (script_from takes_block offset (pending ++ entry.left)).items)
         (λ events. IsStoreOf (disk_now entry) s0 events)
         (λ holds_made. rest_leaves (disk_now entry) s0 made holds_made) rest;
     end = refl;
@@ -282,12 +282,12 @@ module _ (a b : Told) (s : State) (answer : Answer Event) (reply bytes : List �
 
 -- ---- the loop
 -- the input was looked at, and the run ends
-module _ (rule : State → Item → Answer Event) (entry a b : Told) (s0 : State) (whole : Script) (failed : Bool) (place : ℕ) (pending : List ℕ)
+module _ (rule : State → Item → Answer Event) (entry a b : Told) (s0 : State) (whole : Script) (failed : Bool) (offset : ℕ) (pending : List ℕ)
     (refused : Bool) (state : State) (broken : Bool)
-    (serving_a : Serving rule entry a s0 whole failed place pending refused state broken) (on : GoesOn a b) (disk : KeepsDisk a b) (said : KeepsSaid a b)
+    (serving_a : Serving rule entry a s0 whole failed offset pending refused state broken) (on : GoesOn a b) (disk : KeepsDisk a b) (said : KeepsSaid a b)
     (made : List Event) (holds : IsStoreOf (disk_now entry) s0 made) where
   abbrev ahead : Script
-  ahead = script_from takes_block place (pending ++ a.left)
+  ahead = script_from takes_block offset (pending ++ a.left)
 
   there : IsTrue entry.tells → Between rule entry a made (serving_by rule s0 whole) ahead state refused
   there told = serving_a.going told made holds
@@ -323,11 +323,11 @@ module _ (rule : State → Item → Answer Event) (entry a b : Told) (s0 : State
     accepted_done is = looked_done Accepted (λ told. ((ended told).0, (ended told).1 ∙ ap (λ (r : Bool). end_of None r) is, λ reads. empty (told_a told)))
 
 -- the loop at an item
-module _ (rule : State → Item → Answer Event) (entry a b : Told) (s0 : State) (whole : Script) (failed : Bool) (place : ℕ) (pending : List ℕ)
+module _ (rule : State → Item → Answer Event) (entry a b : Told) (s0 : State) (whole : Script) (failed : Bool) (offset : ℕ) (pending : List ℕ)
     (refused : Bool) (state : State) (broken : Bool)
-    (serving_a : Serving rule entry a s0 whole failed place pending refused state broken) (on : GoesOn a b) (disk : KeepsDisk a b) (said : KeepsSaid a b)
+    (serving_a : Serving rule entry a s0 whole failed offset pending refused state broken) (on : GoesOn a b) (disk : KeepsDisk a b) (said : KeepsSaid a b)
     (item : Item) (place_b : ℕ) (pending_b : List ℕ)
-    (got : IsTrue a.tells → script_from takes_block place (pending ++ a.left) ≡ with_item item.line item.block
+    (got : IsTrue a.tells → script_from takes_block offset (pending ++ a.left) ≡ with_item item.line item.block
     (script_from takes_block place_b (pending_b ++ b.left))) where
   course_b : GoesOn entry b
   course_b = course_on entry a b serving_a.course on
@@ -336,7 +336,7 @@ module _ (rule : State → Item → Answer Event) (entry a b : Told) (s0 : State
       → Between rule entry b made (serving_by rule s0 whole)
       (with_item item.line item.block (script_from takes_block place_b (pending_b ++ b.left))) state refused
   item_between told made holds =
-      looked rule entry a b made (serving_by rule s0 whole) (script_from takes_block place (pending ++ a.left)) state refused
+      looked rule entry a b made (serving_by rule s0 whole) (script_from takes_block offset (pending ++ a.left)) state refused
       (serving_a.going told made holds) serving_a.course on disk said told
       (with_item item.line item.block (script_from takes_block place_b (pending_b ++ b.left))) (got (told_next entry a serving_a.course told))
 

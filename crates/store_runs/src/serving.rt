@@ -81,7 +81,7 @@ fn serve_lines<H: Host, G: Gate>(
     requires whole { session.old.broken ≡ false }
     requires open { IsTrue (H.told host.old).tells → ((made : List Event) × IsStoreOf (disk_now (H.told host.old)) session.old.state made) }
     ensures done { (made : List Event) → IsStoreOf (disk_now (H.told host.old)) session.old.state made
-        → IsDone (serving_by (gated (G.refusal gate.now)) session.old.state (script_from takes_block lines.old.place (lines.old.pending ++ (H.told host.old).left))) made (H.told host.old) (H.told host.new) result }
+        → IsDone (serving_by (gated (G.refusal gate.now)) session.old.state (script_from takes_block lines.old.offset (lines.old.pending ++ (H.told host.old).left))) made (H.told host.old) (H.told host.new) result }
     ensures words { result ≢ Status.BadWords }
     ensures read { result ≡ Status.ReadFault → Rose (H.told host.old).take_faults (H.told host.new).take_faults }
     ensures write { result ≡ Status.WriteFault → Rose (H.told host.old).say_faults (H.told host.new).say_faults }

@@ -6,7 +6,7 @@ use Rattle.host_port.specs.Host.{Told, Disk, MayLeave, Throughout, KeepsDisk, Ke
 use Rattle.host_port.proofs.Course.{still_disk}
 use Rattle.page_pool.specs.Frames.{Frames}
 use Rattle.page_pool.specs.Paged.{PagedState}
-use Rattle.commit_journal.specs.Journal.{StandsFor, IsAtRest, IsBeforeOrAfter, RecordFits, HoldsRecord}
+use Rattle.commit_journal.specs.Journal.{StandsFor, IsJournalAtRest, IsBeforeOrAfter, RecordFits, HoldsRecord}
 use Rattle.commit_journal.proofs.Torn.{left_settled}
 use Rattle.commit_journal.proofs.Ends.{stands}
 use Rattle.command_runs.specs.Runs.{listed}
@@ -92,12 +92,12 @@ module _ (a b : Told) (state : State) (made : List Event) (event : Event) (can :
   could = playable-more empty made event holds.rests.playable (subst (λ (s : State). IsTrue (playable s event)) holds.state_is can)
 
   pub event_added : (disk : Disk) (next : State) (end_next : ℕ) (bytes : List ℕ) → bytes ≡ event_encoding event → next ≡ play state event
-      → next.end ≡ end_next → IsAtRest disk (map event_encoding made ++ bytes ∷ []) end_next
+      → next.end ≡ end_next → IsJournalAtRest disk (map event_encoding made ++ bytes ∷ []) end_next
       → IsStoreOf disk next (made ++ event ∷ [])
   event_added disk next end_next bytes bytes_is next_is end_is rest = record {
     rests = record {
-      journal = subst (λ (n : ℕ). IsAtRest disk (map event_encoding (made ++ event ∷ [])) n) (sym end_is)
-          (subst (λ (l : List (List ℕ)). IsAtRest disk l end_next)
+      journal = subst (λ (n : ℕ). IsJournalAtRest disk (map event_encoding (made ++ event ∷ [])) n) (sym end_is)
+          (subst (λ (l : List (List ℕ)). IsJournalAtRest disk l end_next)
           (ap (λ (l : List ℕ). map event_encoding made ++ l ∷ []) bytes_is ∙ sym (map-more made event)) rest);
       playable = could;
     };

@@ -13,8 +13,8 @@ use Rattle.commit_journal.specs.Journal.{HoldsRecord, most_bytes}
 use Rattle.commit_journal.proofs.Ends.{length-after_gate}
 use Rattle.plain_repository.specs.State.{State}
 use Rattle.history_tree.specs.History.{History}
-use Rattle.version_states.specs.Cached.{AreForms, IsVersionForm, MayUse, Uses}
-use Rattle.repo_state.specs.Cached.{HasForms}
+use Rattle.version_states.specs.Cached.{AreEncodings, IsVersionEncoding, MayUse, Uses}
+use Rattle.repo_state.specs.Cached.{HasEncodings}
 use Rattle.store_session.specs.Session.{HoldsBoth, LeavesRecord}
 
 -- ---- the cache alone
@@ -25,8 +25,8 @@ pub all_on : (p q : Frames) (a b : Entries) → HoldsAll p a → Uses p q a b �
 all_on p q a b all uses = record { out = uses.out; count = omega (arith, all.count, uses.count) }
 
 -- what a cache stands for stays where its frames do
-pub forms_alike : (s : State) (p q : Frames) (c : Entries) → stands q c ≡ stands p c → HasForms s p c → HasForms s q c
-forms_alike s p q c same forms = subst (λ (l : List (ℕ × List ℕ)). AreForms s.meta s.history l) (sym same) forms
+pub forms_alike : (s : State) (p q : Frames) (c : Entries) → stands q c ≡ stands p c → HasEncodings s p c → HasEncodings s q c
+forms_alike s p q c same forms = subst (λ (l : List (ℕ × List ℕ)). AreEncodings s.meta s.history l) (sym same) forms
 
 -- entries that stand for nothing are none, and none are left of them
 none_stand : (p : Frames) (es : Entries) → stands p es ≡ [] → es ≡ []
@@ -38,13 +38,13 @@ none_taken zero es is = refl
 none_taken (suc k) [] is = refl
 none_taken (suc k) (e ∷ es) is = absurd cc
 
-none_yielded : (m : Option Meta) (h : History) (p q : Frames) (n : ℕ) (old new : Entries) → IsYielded p q n old new → AreForms m h (stands p old)
-    → AreForms m h (stands q new)
+none_yielded : (m : Option Meta) (h : History) (p q : Frames) (n : ℕ) (old new : Entries) → IsYielded p q n old new → AreEncodings m h (stands p old)
+    → AreEncodings m h (stands q new)
 none_yielded None h p q n old new yielded none =
     ap (λ (es : Entries). stands q es) (yielded.kept.first ∙ none_taken yielded.kept.count old (none_stand p old none))
-none_yielded (Some meta) h p q n old new yielded forms = all_yielded (IsVersionForm meta h) p q n old new yielded forms
+none_yielded (Some meta) h p q n old new yielded forms = all_yielded (IsVersionEncoding meta h) p q n old new yielded forms
 
-pub forms_yielded : (s : State) (p q : Frames) (n : ℕ) (old new : Entries) → IsYielded p q n old new → HasForms s p old → HasForms s q new
+pub forms_yielded : (s : State) (p q : Frames) (n : ℕ) (old new : Entries) → IsYielded p q n old new → HasEncodings s p old → HasEncodings s q new
 forms_yielded s p q n old new yielded forms = none_yielded s.meta s.history p q n old new yielded forms
 
 -- so many frames can be out then as a record takes

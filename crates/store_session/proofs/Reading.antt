@@ -5,8 +5,8 @@ use Rattle.std.proofs.lemmas.Bool.{cases_lt}
 use Rattle.std.proofs.lemmas.List.{append-nil, length-take}
 use Rattle.host_port.specs.Host.{Told, Disk, MayLeave, GoesOn, KeepsDisk, KeepsSaid, KeepsInput, disk_now}
 use Rattle.host_port.proofs.Course.{carry_on, at_last, told_next, course_on, kept_now, keeps_said_on, keeps_input_on}
-use Rattle.commit_journal.specs.TornWrites.{IsSettled}
-use Rattle.commit_journal.specs.Journal.{WalkState, StandsFor, StandsForNone, IsWalked, IsAtRest, IsStuck, ReadsTo, MountedFrom, IsAtMostSynced}
+use Rattle.commit_journal.specs.TornWrites.{IsStable}
+use Rattle.commit_journal.specs.Journal.{WalkState, StandsFor, StandsForNone, IsWalked, IsJournalAtRest, IsStuck, ReadsTo, MountedFrom, IsAtMostSynced}
 use Rattle.commit_journal.specs.Journal.{records, record_of, header, open_gate}
 use Rattle.commit_journal.proofs.Torn.{left_settled}
 use Rattle.commit_journal.proofs.Ends.{records-push, length-record_of, length-header, stands}
@@ -31,7 +31,7 @@ use Rattle.commit_journal.specs.Walk as journal
 use Rattle.store_session.specs.declared.answered.SessionFault.{SessionFault}
 use Rattle.store_session.specs.declared.answered.SessionFault.TheVariants.{DiskFault, SayFault, Damaged, Memory}
 use Rattle.store_session.specs.Opening.{IsMounting, IsOpenedSince, PlaysEvent, SpellsEvent}
-use Rattle.store_session.specs.Session.{IsStoreOf, IsReplayed, AtDamage, fault_of}
+use Rattle.store_session.specs.Session.{IsStoreOf, IsPlayedUpTo, AtDamage, fault_of}
 use Rattle.store_session.specs.State.{OpeningState}
 use Rattle.store_session.proofs.Playing.{play_end}
 
@@ -66,10 +66,10 @@ damage_on (Damaged at) P Q gives p = gives at p
 damage_on Memory P Q gives p = tt
 
 -- the reading of the records stops where neither a closed gate nor a record stands
-pub stuck_is_damage : (disk : Disk) (state : State) (place at : ℕ) (made : List Event) → IsReplayed disk state place made → place < 2 ^ 40
-    → at ≡ place → IsStuck disk.now at → StandsForNone disk.now
+pub stuck_is_damage : (disk : Disk) (state : State) (offset at : ℕ) (made : List Event) → IsPlayedUpTo disk state offset made → offset < 2 ^ 40
+    → at ≡ offset → IsStuck disk.now at → StandsForNone disk.now
     → IsDamaged disk.now at × StandsForNoEvents disk.now
-stuck_is_damage disk state place at made replayed low at_is stuck none =
+stuck_is_damage disk state offset at made replayed low at_is stuck none =
     let nothing : StandsForNoEvents disk.now = none_stands disk.now none in (
       record {
         long = is_long disk.now nothing;
@@ -85,11 +85,11 @@ stuck_is_damage disk state place at made replayed low at_is stuck none =
     )
 
 -- a file with a record is longer than a new one
-pub long_with_record : (file : List ℕ) (forms : List (List ℕ)) (bytes : List ℕ) (place : ℕ) → ReadsTo file (forms ++ bytes ∷ []) place → 17 < length file
-long_with_record file forms bytes place reads = omega (
+pub long_with_record : (file : List ℕ) (forms : List (List ℕ)) (bytes : List ℕ) (offset : ℕ) → ReadsTo file (forms ++ bytes ∷ []) offset → 17 < length file
+long_with_record file forms bytes offset reads = omega (
   arith,
   ap length reads.prefix,
-  length-take place file,
+  length-take offset file,
   length-append header (records (forms ++ bytes ∷ [])),
   length-header,
   reads.place_is,
@@ -100,8 +100,8 @@ long_with_record file forms bytes place reads = omega (
 )
 
 -- the bytes of a record are no event that can be made there
-module _ (disk : Disk) (state : State) (place next at : ℕ) (bytes : List ℕ) (made : List Event) (replayed : IsReplayed disk state place made)
-    (low : place < 2 ^ 40) (at_is : at ≡ place) (next_is : next ≡ place + 5 + length bytes)
+module _ (disk : Disk) (state : State) (offset next at : ℕ) (bytes : List ℕ) (made : List Event) (replayed : IsPlayedUpTo disk state offset made)
+    (low : offset < 2 ^ 40) (at_is : at ≡ offset) (next_is : next ≡ offset + 5 + length bytes)
     (none : (event : Event) → IsTrue (playable state event) → bytes ≡ event_encoding event → ⊥)
     (reads : ReadsTo disk.now (map event_encoding made ++ bytes ∷ []) next) where
   no_such : (event : Event) → IsTrue (playable (played play empty made) event) → bytes ≡ event_encoding event → ⊥
@@ -167,9 +167,9 @@ spelt_is_read bytes fault spells is =
     cc
 
 -- the journal's end goes on with the record
-pub end_on : (state next_state : State) (place next : ℕ) (bytes : List ℕ) → state.end ≡ place → next ≡ place + 5 + length bytes
+pub end_on : (state next_state : State) (offset next : ℕ) (bytes : List ℕ) → state.end ≡ offset → next ≡ offset + 5 + length bytes
     → Played state bytes next_state → next_state.end ≡ next
-end_on state next_state place next bytes at next_is event =
+end_on state next_state offset next bytes at next_is event =
     ap (λ (s : State). s.end) event.3 ∙ play_end state event.0
     ∙ (let e : state.end + 5 + length (event_encoding event.0) ≡ next = omega (arith, at, ap length event.2, next_is) in e)
 
@@ -191,15 +191,16 @@ module _ (a b : Told) (old new : OpeningState) (bytes : List ℕ) (event : Playe
   }
 
 -- the closed gate is found
-pub at_closed_gate : (disk_a disk_b : Disk) (state : State) (place end : ℕ) (made : List Event) → IsReplayed disk_a state place made → state.end ≡ end
-    → (IsWalked disk_a (map event_encoding made) place → IsAtRest disk_b (map event_encoding made) end) → IsStoreOf disk_b state made
-at_closed_gate disk_a disk_b state place end made had end_is closed = record {
-  rests = record { journal = subst (λ (n : ℕ). IsAtRest disk_b (map event_encoding made) n) (sym end_is) (closed had.walked); playable = had.playable };
+pub at_closed_gate : (disk_a disk_b : Disk) (state : State) (offset end : ℕ) (made : List Event) → IsPlayedUpTo disk_a state offset made → state.end ≡ end
+    → (IsWalked disk_a (map event_encoding made) offset → IsJournalAtRest disk_b (map event_encoding made) end) → IsStoreOf disk_b state made
+at_closed_gate disk_a disk_b state offset end made had end_is closed = record {
+  rests = record { journal = subst (λ (n : ℕ). IsJournalAtRest disk_b (map event_encoding made) n) (sym end_is) (closed had.walked); playable = had.playable };
   state_is = had.state_is;
 }
 
 -- ---- before the first record
-pub begun : (disk : Disk) (walk : WalkState) → walk ≡ record { place = 16; next = 16; ended = false } → IsWalked disk [] 16 → IsReplayed disk empty walk.next []
+pub begun : (disk : Disk) (walk : WalkState) → walk ≡ record { offset = 16; next = 16; ended = false } → IsWalked disk [] 16
+    → IsPlayedUpTo disk empty walk.next []
 begun disk walk is walked = record { walked = subst (λ (n : ℕ). IsWalked disk [] n) (sym (ap (λ w. w.next) is)) walked; playable = refl; state_is = refl }
 
 -- ---- since the entry
@@ -212,7 +213,7 @@ module _ (entry a b : Told) (since : IsOpenedSince entry a) (before : GoesOn ent
   since_on = record {
     file = λ told. subst (λ d. MountedFrom (disk_now entry).now d.now) (sym (same_disk told)) (since.file told);
     same = λ told forms stood. subst (λ d. StandsFor d.now forms) (sym (same_disk told)) (since.same told forms stood);
-    settled = λ told. subst IsSettled (sym (same_disk told)) (since.settled told);
+    settled = λ told. subst IsStable (sym (same_disk told)) (since.settled told);
     moments = λ told. carry_on entry a b (λ disk said. IsMounting (disk_now entry) disk) before course since.moments
         (λ told_here t low high. inr (λ x left.
         let is = left_settled (disk_now a) x (since.settled told) (subst (λ d. MayLeave d x) (disk told_here t low high) left) in
@@ -245,7 +246,7 @@ pub record Mounts (entry now : Told) (opening : OpeningState) : Type 0 where
   pub course : GoesOn entry now
   pub said : KeepsSaid entry now
   pub input : KeepsInput entry now
-  pub replayed : IsTrue entry.tells → (made : List Event) × IsReplayed (disk_now now) opening.state opening.next made
+  pub replayed : IsTrue entry.tells → (made : List Event) × IsPlayedUpTo (disk_now now) opening.state opening.next made
   pub since : IsOpenedSince entry now
 
 module _ (entry a b : Told) (opening : OpeningState) (mounts : Mounts entry a opening) (course : GoesOn a b) (disk : KeepsDisk a b)
@@ -275,7 +276,7 @@ module _ (entry a b : Told) (opening : OpeningState) (mounts : Mounts entry a op
 
   -- the closed gate is found
   pub mounted : (state : State)
-      → (IsTrue a.tells → (made : List Event) → IsReplayed (disk_now a) opening.state opening.next made → IsStoreOf (disk_now b) state made)
+      → (IsTrue a.tells → (made : List Event) → IsPlayedUpTo (disk_now a) opening.state opening.next made → IsStoreOf (disk_now b) state made)
       → IsTrue entry.tells → (made : List Event) × IsStoreOf (disk_now b) state made × StandsForEvents (disk_now entry).now made
   mounted state store told =
       let had = mounts.replayed told in

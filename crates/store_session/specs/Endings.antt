@@ -91,16 +91,16 @@ code_of Memory = 7
 code_of (Input fault at) = 8
 
 -- what the program's line on standard error says after its name; of the first two there is none
-abbrev pub text_of : Status → List ℕ
-text_of Accepted = codes "accepted"
-text_of Refused = codes "refused"
-text_of BadWords = codes "bad words"
-text_of ReadFault = codes "read fault"
-text_of WriteFault = codes "write fault"
-text_of DiskFault = codes "disk fault"
-text_of (Damaged at) = codes "damaged at " ++ decimal at
-text_of Memory = codes "out of memory"
-text_of (Input fault at) = codes "input fault " ++ (decimal fault ++ (codes " at " ++ decimal at))
+abbrev pub status_text : Status → List ℕ
+status_text Accepted = codes "accepted"
+status_text Refused = codes "refused"
+status_text BadWords = codes "bad words"
+status_text ReadFault = codes "read fault"
+status_text WriteFault = codes "write fault"
+status_text DiskFault = codes "disk fault"
+status_text (Damaged at) = codes "damaged at " ++ decimal at
+status_text Memory = codes "out of memory"
+status_text (Input fault at) = codes "input fault " ++ (decimal fault ++ (codes " at " ++ decimal at))
 
 -- a run that does not read its input leaves it as it is
 abbrev pub KeepsUnread : Task → Told → Told → Type 0
@@ -119,7 +119,7 @@ KeepsFile before now = Throughout before now (λ disk said. disk.now ≡ (disk_n
 -- A host that reports has a file that is damaged at an offset and stands for no list of events. At each moment the file reads as
 -- it was. Nothing is printed, and no input taken.
 pub record IsFoundDamaged (before now : Told) (at : ℕ) : Type 0 where
-  pub place : IsTrue before.tells → IsDamaged (disk_now before).now at
+  pub offset : IsTrue before.tells → IsDamaged (disk_now before).now at
   pub no_events : IsTrue before.tells → StandsForNoEvents (disk_now before).now
   pub file : KeepsFile before now
   pub said : KeepsSaid before now

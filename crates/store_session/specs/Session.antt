@@ -15,13 +15,13 @@ use Rattle.plain_repository.specs.Answers as plain
 use Rattle.plain_repository.specs.Answers.{is_refusal}
 use Rattle.plain_repository.specs.Events.{play, playable, are_playable}
 use Rattle.plain_repository.specs.Repository.{decide_line, answer_of}
-use Rattle.plain_repository.specs.Store.{StandsForEvents, Rests}
+use Rattle.plain_repository.specs.Store.{StandsForEvents, IsStoreAtRest}
 use Rattle.script_lang.specs.Reply.{printed}
 use Rattle.store_session.specs.declared.answered.Answered.{Answered}
 use Rattle.store_session.specs.declared.answered.Answered.TheVariants.{Accepted, Refused}
 use Rattle.store_session.specs.declared.answered.SessionFault.{SessionFault}
 use Rattle.store_session.specs.declared.answered.SessionFault.TheVariants.{DiskFault, SayFault, Damaged, Memory}
-use Rattle.store_session.specs.declared.plan.Plan.{Plan}
+use Rattle.store_session.specs.declared.preparing.PreparedAnswer.{PreparedAnswer}
 
 -- what a line with its block is answered with
 abbrev pub answer_to : State → List ℕ → Option (List ℕ) → Answer Event
@@ -29,7 +29,7 @@ answer_to state line block = answer_of (decide_line state line block)
 
 -- a store at rest, and the state of its events
 pub record IsStoreOf (disk : Disk) (state : State) (made : List Event) : Type 0 where
-  pub rests : Rests disk state.end made
+  pub rests : IsStoreAtRest disk state.end made
   pub state_is : state ≡ played play empty made
 
 -- an event or none is on its way to the store
@@ -83,14 +83,14 @@ abbrev pub LeavesRecord : ℕ → Entries → Entries → Type 0
 LeavesRecord size old new = Keeps (λ entries frames. frames + frames_for (size + 5) ≤ pool_limit) old new
 
 -- all of a decision is prepared: its reply's bytes, and its event's record
-pub record IsPlan (pool : Frames) (state : State) (decision : plain.Decision) (plan : Plan) : Type 0 where
-  pub reply : plan.reply.items ≡ printed decision.reply
-  pub answered : plan.answered ≡ answered_as (is_refusal decision.reply)
-  pub ready : IsRecordOf pool state decision.event plan.ready
+pub record IsPrepared (pool : Frames) (state : State) (decision : plain.Decision) (prepared_answer : PreparedAnswer) : Type 0 where
+  pub reply : prepared_answer.reply.items ≡ printed decision.reply
+  pub answered : prepared_answer.answered ≡ answered_as (is_refusal decision.reply)
+  pub ready : IsRecordOf pool state decision.event prepared_answer.ready
 
 -- A store while it is read. Its records up to an offset are those of events, each one that could be made, and the state is theirs.
-pub record IsReplayed (disk : Disk) (state : State) (place : ℕ) (made : List Event) : Type 0 where
-  pub walked : IsWalked disk (map event_encoding made) place
+pub record IsPlayedUpTo (disk : Disk) (state : State) (offset : ℕ) (made : List Event) : Type 0 where
+  pub walked : IsWalked disk (map event_encoding made) offset
   pub playable : IsTrue (are_playable empty made)
   pub state_is : state ≡ played play empty made
 

@@ -5,7 +5,7 @@
 
 mod answered;
 mod opening;
-mod plan;
+mod preparing;
 mod session;
 mod status;
 

@@ -1,7 +1,7 @@
 //! A store that is being opened: its records are read, and the event of each is played.
 ghost use Rattle.std.specs.Prelude.{◌≡◌, ◌≢◌, ◌+◌, ◌<◌, ◌^◌, ◌++◌, [], ◌∷◌, List, ℕ, length, IsTrue, IfOk, OnOk, IfErr, OnErr, IfSome, IfNone, IsErrOf, true, false};
 ghost use Rattle.host_port.specs.Host.{disk_now, Rose, GoesOn, Throughout, KeepsDisk, KeepsSaid, KeepsInput};
-ghost use Rattle.commit_journal.specs.Journal.{IsAtMostSynced, IsAtRest, IsNoHeader, IsShort, IsStuck, IsWalked, StandsForNone, new_size, next_gate};
+ghost use Rattle.commit_journal.specs.Journal.{IsAtMostSynced, IsJournalAtRest, IsNoHeader, IsShort, IsStuck, IsWalked, StandsForNone, new_size, next_gate};
 ghost use Rattle.commit_journal.specs.Walk.{IfDamaged};
 ghost use Rattle.op_form.specs.declared.event.Event.{Event};
 ghost use Rattle.op_form.specs.Events.{event_encoding};
@@ -9,19 +9,19 @@ ghost use Rattle.op_form.specs.Formed.{IsEvent};
 ghost use Rattle.plain_repository.specs.Events.{play, playable};
 ghost use Rattle.plain_repository.specs.Store.{IsDamaged, StandsForNoEvents};
 ghost use Rattle.version_states.specs.Cached.{MayUse, Uses};
-ghost use Rattle.repo_state.specs.Cached.{HasForms};
+ghost use Rattle.repo_state.specs.Cached.{HasEncodings};
 ghost use Rattle.store_session.specs.Opening.{IsMounting, IsOpenedSince, PlaysEvent};
-ghost use Rattle.store_session.specs.Session.{AtDamage, IsReplayed, IsStoreOf};
+ghost use Rattle.store_session.specs.Session.{AtDamage, IsPlayedUpTo, IsStoreOf};
 
 use crate::answered::{SessionFault, session_fault};
 use crate::session::Session;
 use commit_journal::{JournalFault, Walk};
-use event_play::replay;
+use event_play::play_bytes;
 use host_port::Host;
 use op_form::Event;
 use op_reading::{FormFault, decode_event};
 use page_pool::Pool;
-use repo_state::{ReplayFault, Repo};
+use repo_state::{PlayFault, Repo};
 use state_cache::Cache;
 use std::alloc::{AllocError, Global};
 use std::marker::Model;
@@ -65,14 +65,14 @@ fn next_record<H: Host>(
     repo: &mut Repo,
 ) -> Result<Option<Vec<u8>>, JournalFault>
     requires walked { IsTrue (H.told host.old).tells → ((forms : List (List ℕ)) × IsWalked (disk_now (H.told host.old)) forms walk.old.next) }
-    ensures some { IfOk result (λ next. IfSome next (λ form. (walk.new ≡ record { place = walk.old.next; next = walk.old.next + 5 + length form.items; ended = walk.old.ended }) × IsShort form.items)) }
+    ensures some { IfOk result (λ next. IfSome next (λ form. (walk.new ≡ record { offset = walk.old.next; next = walk.old.next + 5 + length form.items; ended = walk.old.ended }) × IsShort form.items)) }
     ensures none { IfOk result (λ next. IfNone next (walk.new ≡ record walk.old { ended = true })) }
     ensures err { OnErr result (walk.new ≡ walk.old) }
     ensures low { walk.new.next < 2 ^ 40 }
     ensures walked { IfOk result (λ next. IfSome next (λ form. IsTrue (H.told host.old).tells → (forms : List (List ℕ)) → IsWalked (disk_now (H.told host.old)) forms walk.old.next
         → IsWalked (disk_now (H.told host.new)) (forms ++ form.items ∷ []) walk.new.next)) }
     ensures ended { IfOk result (λ next. IfNone next (IsTrue (H.told host.old).tells → (forms : List (List ℕ)) → IsWalked (disk_now (H.told host.old)) forms walk.old.next
-        → IsAtRest (disk_now (H.told host.new)) forms walk.new.next)) }
+        → IsJournalAtRest (disk_now (H.told host.new)) forms walk.new.next)) }
     ensures damaged { IfErr result (λ fault. IfDamaged fault (λ at. (at ≡ walk.old.next) × (IsTrue (H.told host.old).tells → IsStuck (disk_now (H.told host.old)).now at))) }
     ensures nothing { IfErr result (λ fault. IfDamaged fault (λ _. IsTrue (H.told host.old).tells → StandsForNone (disk_now (H.told host.old)).now)) }
     ensures cause { IsErrOf result JournalFault.DiskFault → Rose (H.told host.old).disk_faults (H.told host.new).disk_faults }
@@ -99,19 +99,19 @@ fn play_record(
     pool: &mut Pool,
     repo: &mut Repo,
     bytes: &[u8],
-) -> Result<(), ReplayFault>
+) -> Result<(), PlayFault>
     requires room { next_gate repo.old.end (length bytes.now) < 2 ^ 40 }
     requires usable { MayUse pool.old cache.old }
-    requires forms { HasForms repo.old pool.old cache.old }
+    requires forms { HasEncodings repo.old pool.old cache.old }
     ensures played { OnOk result ((event : Event) × IsTrue (playable repo.old event) × (bytes.now ≡ event_encoding event) × (repo.new ≡ play repo.old event)) }
-    ensures refused { IsErrOf result ReplayFault.NotPlayable → (event : Event) → IsTrue (playable repo.old event) → bytes.now ≢ event_encoding event }
+    ensures refused { IsErrOf result PlayFault.NotPlayable → (event : Event) → IsTrue (playable repo.old event) → bytes.now ≢ event_encoding event }
     ensures uses { Uses pool.old pool.new cache.old cache.new }
-    ensures forms { HasForms repo.new pool.new cache.new }
+    ensures forms { HasEncodings repo.new pool.new cache.new }
 {
-    match replay(alloc, cache, pool, repo, bytes) {
-        Err(ReplayFault::Memory) => {
+    match play_bytes(alloc, cache, pool, repo, bytes) {
+        Err(PlayFault::Memory) => {
             repo.let_models_go();
-            replay(alloc, cache, pool, repo, bytes)
+            play_bytes(alloc, cache, pool, repo, bytes)
         }
         other => other,
     }
@@ -129,14 +129,14 @@ pub struct Opening {
 
 impl Model for Opening {
     ghost use Rattle.state_cache.specs.Entries.{HoldsAll};
-    ghost use Rattle.repo_state.specs.Cached.{HasForms};
+    ghost use Rattle.repo_state.specs.Cached.{HasEncodings};
     ghost use Rattle.store_session.specs.State.{OpeningState};
 
     ghost Value = { OpeningState };
 
     ghost view = { λ o. record { state = o.repo; next = o.walk.next; ended = o.walk.ended } };
 
-    ghost invariant = { λ o. HoldsAll o.pool o.cache × HasForms o.repo o.pool o.cache };
+    ghost invariant = { λ o. HoldsAll o.pool o.cache × HasEncodings o.repo o.pool o.cache };
 }
 
 impl Opening {
@@ -148,7 +148,7 @@ impl Opening {
     /// `Damaged` at the first byte that is not the header's, `DiskFault` and `Memory`.
     pub fn begin<H: Host>(alloc: Global, host: &mut H) -> Result<Opening, SessionFault>
         ensures at { IfOk result (λ o. o.state.end ≡ o.next) }
-        ensures replayed { IfOk result (λ o. IsTrue (H.told host.old).tells → IsReplayed (disk_now (H.told host.new)) o.state o.next []) }
+        ensures replayed { IfOk result (λ o. IsTrue (H.told host.old).tells → IsPlayedUpTo (disk_now (H.told host.new)) o.state o.next []) }
         ensures since { OnOk result (IsOpenedSince (H.told host.old) (H.told host.new)) }
         ensures moments { Throughout (H.told host.old) (H.told host.new) (λ disk _. IsMounting (disk_now (H.told host.old)) disk) }
         ensures damaged { IfErr result (λ e. AtDamage e (λ at. IsTrue (H.told host.old).tells → IsDamaged (disk_now (H.told host.old)).now at × StandsForNoEvents (disk_now (H.told host.old)).now)) }
@@ -195,16 +195,16 @@ impl Opening {
         host: &mut H,
     ) -> Result<Option<Played>, SessionFault>
         requires at { self.old.state.end ≡ self.old.next }
-        requires replayed { IsTrue (H.told host.old).tells → ((made : List Event) × IsReplayed (disk_now (H.told host.old)) self.old.state self.old.next made) }
+        requires replayed { IsTrue (H.told host.old).tells → ((made : List Event) × IsPlayedUpTo (disk_now (H.told host.old)) self.old.state self.old.next made) }
         ensures played { IfOk result (λ next. IfSome next (PlaysEvent (H.told host.old) (H.told host.new) self.old self.new)) }
         ensures at { OnOk result (self.new.state.end ≡ self.new.next) }
         ensures advances { IfOk result (λ next. IfSome next (λ _. self.old.next < self.new.next)) }
         ensures low { self.new.next < 2 ^ 40 }
         ensures ended { IfOk result (λ next. IfNone next (self.new ≡ record self.old { ended = true })) }
-        ensures store { IfOk result (λ next. IfNone next (IsTrue (H.told host.old).tells → (made : List Event) → IsReplayed (disk_now (H.told host.old)) self.old.state self.old.next made
+        ensures store { IfOk result (λ next. IfNone next (IsTrue (H.told host.old).tells → (made : List Event) → IsPlayedUpTo (disk_now (H.told host.old)) self.old.state self.old.next made
             → IsStoreOf (disk_now (H.told host.new)) self.new.state made)) }
         ensures damaged { IfErr result (λ e. AtDamage e (λ at. IsTrue (H.told host.old).tells → IsDamaged (disk_now (H.told host.old)).now at × StandsForNoEvents (disk_now (H.told host.old)).now)) }
-        ensures place { IfErr result (λ e. AtDamage e (λ at. at ≡ self.old.next)) }
+        ensures offset { IfErr result (λ e. AtDamage e (λ at. at ≡ self.old.next)) }
         ensures never { IfErr result (λ e. e ≢ SessionFault.SayFault) }
         ensures cause { IsErrOf result SessionFault.DiskFault → Rose (H.told host.old).disk_faults (H.told host.new).disk_faults }
         ensures course { GoesOn (H.told host.old) (H.told host.new) }
@@ -225,10 +225,10 @@ impl Opening {
             &bytes,
         ) {
             Ok(()) => Ok(Some(Played { bytes })),
-            Err(ReplayFault::NotPlayable) => Err(SessionFault::Damaged {
-                at: self.walk.place(),
+            Err(PlayFault::NotPlayable) => Err(SessionFault::Damaged {
+                at: self.walk.offset(),
             }),
-            Err(ReplayFault::Memory) => Err(SessionFault::Memory),
+            Err(PlayFault::Memory) => Err(SessionFault::Memory),
         }
     }
 

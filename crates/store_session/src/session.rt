@@ -8,18 +8,18 @@ ghost use Rattle.plain_repository.specs.Events.{play};
 ghost use Rattle.plain_repository.specs.Store.{StandsForEvents, IsDamaged, StandsForNoEvents};
 ghost use Rattle.commit_journal.specs.Journal.{IsAtMostSynced, StandsForSame, new_size};
 ghost use Rattle.state_cache.specs.Entries.{HoldsAll};
-ghost use Rattle.repo_state.specs.Cached.{HasForms};
-ghost use Rattle.repo_core.specs.Counting.{AreCounts, element_count};
-ghost use Rattle.repo_core.specs.Decisions.{IsShortBlock};
+ghost use Rattle.repo_state.specs.Cached.{HasEncodings};
+ghost use Rattle.repo_answers.specs.Counting.{AreCounts, element_count};
+ghost use Rattle.repo_answers.specs.Decisions.{IsShortBlock};
 ghost use Rattle.store_session.specs.Session.{answer_to, IsStoreOf, IsEntering, IfMade, AtDamage, answered_as};
 
 use crate::answered::{Answered, SessionFault};
 use crate::opening::Opening;
-use crate::plan::{answer, answer_quietly};
+use crate::preparing::{answer, answer_quietly};
 use commit_journal::Journal;
 use host_port::Host;
 use page_pool::Pool;
-use repo_core::{Counts, elements_at_head};
+use repo_answers::{Counts, elements_at_head};
 use repo_state::Repo;
 use state_cache::Cache;
 use std::alloc::{AllocError, Global};
@@ -39,14 +39,14 @@ pub struct Session {
 impl Model for Session {
     ghost use Rattle.std.specs.Prelude.{◌≡◌, false};
     ghost use Rattle.state_cache.specs.Entries.{HoldsAll};
-    ghost use Rattle.repo_state.specs.Cached.{HasForms};
+    ghost use Rattle.repo_state.specs.Cached.{HasEncodings};
     ghost use Rattle.store_session.specs.State.{SessionState};
 
     ghost Value = { SessionState };
 
     ghost view = { λ s. record { state = s.repo; end = s.journal.end; broken = s.journal.broken } };
 
-    ghost invariant = { λ s. (s.journal.broken ≡ false → s.repo.end ≡ s.journal.end) × HoldsAll s.pool s.cache × HasForms s.repo s.pool s.cache };
+    ghost invariant = { λ s. (s.journal.broken ≡ false → s.repo.end ≡ s.journal.end) × HoldsAll s.pool s.cache × HasEncodings s.repo s.pool s.cache };
 }
 
 impl Session {
@@ -81,7 +81,7 @@ impl Session {
     pub(crate) fn at_rest(repo: Repo, journal: Journal, pool: Pool, cache: Cache) -> Session
         requires end { repo.end ≡ journal.end }
         requires all { HoldsAll pool cache }
-        requires forms { HasForms repo pool cache }
+        requires forms { HasEncodings repo pool cache }
         ensures { result ≡ record { state = repo; end = journal.end; broken = journal.broken } }
     {
         Session {
@@ -103,7 +103,7 @@ impl Session {
     pub fn counts(&self) -> Counts
         ensures { AreCounts self.now.state result }
     {
-        repo_core::counts_of(&self.repo)
+        repo_answers::counts_of(&self.repo)
     }
 
     /// How many elements the state at trunk's head has; none before there is a metamodel. Where memory runs out, the working

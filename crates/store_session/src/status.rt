@@ -54,9 +54,9 @@ impl Status {
 /// What a program writes to standard error of a run that ended so, after its own name. Of the first two it writes nothing.
 impl Display for Status {
     ghost use Rattle.std.specs.Prelude.{Some};
-    ghost use Rattle.store_session.specs.Endings.{text_of};
+    ghost use Rattle.store_session.specs.Endings.{status_text};
 
-    ghost output = { λ status. Some (text_of status) };
+    ghost output = { λ status. Some (status_text status) };
 
     fn fmt<W: fmt::Write>(&self, f: &mut Formatter<W>) -> fmt::Result {
         match self {

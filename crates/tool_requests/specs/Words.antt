@@ -6,7 +6,7 @@ use Rattle.script_lang.specs.declared.command.Command.{Command}
 use Rattle.script_lang.specs.declared.command.Command.TheVariants as commands
 use Rattle.script_lang.specs.declared.command.Spec.{Spec}
 use Rattle.script_lang.specs.Command.{command_of}
-use Rattle.script_lang.specs.Words.{is_word}
+use Rattle.finite_maps.specs.Equal.{text_eq}
 use Rattle.access_rules.specs.declared.policy.Grant.{Grant}
 use Rattle.access_rules.specs.Reading.{grants_of}
 use Rattle.tool_requests.specs.declared.tool.Request.{Request}
@@ -76,10 +76,10 @@ guard_in user text = if is_name user then option_map (λ grants. Guard (record {
 -- what the words ask of a store that is open: `query SPEC ID CLASS FEATURE`, `blame SPEC ID` or `guard USER POLICY`
 abbrev pub tool_in : List (List ℕ) → Option Tool
 tool_in (name ∷ spec ∷ element ∷ class ∷ feature ∷ []) =
-    if is_word name (codes "query") then option_map (λ s. Query s element class feature) (spec_in spec) else None
+    if text_eq name (codes "query") then option_map (λ s. Query s element class feature) (spec_in spec) else None
 tool_in (name ∷ first ∷ second ∷ []) =
-    if is_word name (codes "blame") then option_map (λ s. Blame s second) (spec_in first)
-    else if is_word name (codes "guard") then guard_in first second
+    if text_eq name (codes "blame") then option_map (λ s. Blame s second) (spec_in first)
+    else if text_eq name (codes "guard") then guard_in first second
     else None
 tool_in words = None
 

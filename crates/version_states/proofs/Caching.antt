@@ -24,7 +24,7 @@ use Rattle.history_tree.specs.History.{History, path}
 use Rattle.history_tree.specs.States.{operations_of, operations_to, state_folded, state_of}
 use Rattle.history_tree.proofs.Steady.{operations_append, path_there}
 use Rattle.std.specs.List.{AllByRecursion}
-use Rattle.state_form.specs.Form.{IsStateForm}
+use Rattle.state_form.specs.Form.{IsStateEncoding}
 use Rattle.op_reading.specs.declared.fault.FormFault.{FormFault}
 use Rattle.op_reading.proofs.Codes.{whole_again}
 use Rattle.op_reading.proofs.PackageCodes.{package_codes}
@@ -32,7 +32,7 @@ use Rattle.op_reading.specs.Events.{whole_of}
 use Rattle.op_reading.specs.Laws.{PackagesAreReadAgain}
 use Rattle.op_reading.specs.Packages.{package_at}
 use Rattle.model_laws.proofs.Packages.{steps_append}
-use Rattle.version_states.specs.Cached.{AreForms, IsVersionForm, MayUse, Uses}
+use Rattle.version_states.specs.Cached.{AreEncodings, IsVersionEncoding, MayUse, Uses}
 use Rattle.version_states.proofs.Folding.{fold_append_none}
 
 -- ---- frames
@@ -81,7 +81,7 @@ again : PackagesAreReadAgain
 again = whole_again package_codes
 
 -- a package that is read from an entry's bytes is the entry's
-pub entry_read : (meta : Meta) (m : models.State) (bytes : List ℕ) (read : List Operation) → IsStateForm meta m bytes
+pub entry_read : (meta : Meta) (m : models.State) (bytes : List ℕ) (read : List Operation) → IsStateEncoding meta m bytes
     → whole_of package_at bytes ≡ Ok read → fold_package meta nothing read ≡ Some m
 entry_read meta m bytes read form is =
     let same : read ≡ form.operations =
@@ -92,7 +92,7 @@ entry_read meta m bytes read form is =
     same_ok x y is = cc
 
 -- bytes that are an entry's can be read
-pub entry_reads : (meta : Meta) (m : models.State) (bytes : List ℕ) (e : FormFault) → IsStateForm meta m bytes → whole_of package_at bytes ≢ Err e
+pub entry_reads : (meta : Meta) (m : models.State) (bytes : List ℕ) (e : FormFault) → IsStateEncoding meta m bytes → whole_of package_at bytes ≢ Err e
 entry_reads meta m bytes e form is =
     let same : ◌≡◌ {A = Result (List Operation) FormFault} (Ok form.operations) (Err e) =
     sym (again form.operations form.spelled) ∙ ap (λ (l : List ℕ). whole_of package_at l) (sym form.is) ∙ is in
@@ -149,16 +149,16 @@ leads_on meta h u v rest m is leads m_is =
 
 -- ---- what a cache has after a store
 -- the bytes were too many, or there was no memory
-pub forms_unstored : (m : Option Meta) (h : History) (p q : Frames) (old new : Entries) → new ≡ old → SameFrames p q → AreForms m h (stands p old)
-    → AreForms m h (stands q new)
+pub forms_unstored : (m : Option Meta) (h : History) (p q : Frames) (old new : Entries) → new ≡ old → SameFrames p q → AreEncodings m h (stands p old)
+    → AreEncodings m h (stands q new)
 forms_unstored m h p q old new is same forms =
-    subst (λ (l : List (ℕ × List ℕ)). AreForms m h l) (sym (ap (λ (es : Entries). stands q es) is ∙ stands_alike p q old same)) forms
+    subst (λ (l : List (ℕ × List ℕ)). AreEncodings m h l) (sym (ap (λ (es : Entries). stands q es) is ∙ stands_alike p q old same)) forms
 
 -- the entry is of a version, and has its state
 pub forms_stored : (meta : Meta) (h : History) (p q : Frames) (v : ℕ) (bytes : List ℕ) (old new : Entries) (stored : Bool)
-    → OnTrue stored (IsStored p q v bytes old new) → OnFalse stored ((new ≡ old) × (q ≡ p)) → IsVersionForm meta h (v, bytes)
-    → AreForms (Some meta) h (stands p old) → AreForms (Some meta) h (stands q new)
-forms_stored meta h p q v bytes old new true is none form forms = all_stored (IsVersionForm meta h) p q v bytes old new is form forms
+    → OnTrue stored (IsStored p q v bytes old new) → OnFalse stored ((new ≡ old) × (q ≡ p)) → IsVersionEncoding meta h (v, bytes)
+    → AreEncodings (Some meta) h (stands p old) → AreEncodings (Some meta) h (stands q new)
+forms_stored meta h p q v bytes old new true is none form forms = all_stored (IsVersionEncoding meta h) p q v bytes old new is form forms
 forms_stored meta h p q v bytes old new false is none form forms =
-    subst (λ (l : List (ℕ × List ℕ)). AreForms (Some meta) h l)
+    subst (λ (l : List (ℕ × List ℕ)). AreEncodings (Some meta) h l)
     (sym (ap (λ (es : Entries). stands q es) none.0 ∙ ap (λ (f : Frames). stands f old) none.1)) forms

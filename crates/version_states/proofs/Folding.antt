@@ -16,7 +16,7 @@ use Rattle.model_state.specs.Packages.{steps_of, steps_all, fold_package}
 use Rattle.model_laws.proofs.Packages.{steps_append}
 use Rattle.model_laws.proofs.Runs.{fold_append}
 use Rattle.history_tree.specs.declared.version.Version.{Version}
-use Rattle.history_tree.specs.States.{package_at, operations_of}
+use Rattle.history_tree.specs.States.{package_of_version, operations_of}
 
 -- steps with one that can't be taken lead nowhere
 pub fold_none : (meta : Meta) (m : State) (ss : List Step) (e : StepFault) → fault_along meta m ss ≡ Some e → fold meta m ss ≡ None
@@ -75,12 +75,12 @@ cannot_fold meta start m os i d e (Err f) is_err is below same cannot = λ not_m
 -- ---- versions
 -- the place on a path moves on by a version whose package is taken
 pub version_on : (meta : Meta) (m n : State) (vs : List Version) (us : List ℕ) (i d : ℕ) → i < length us
-    → fold_package meta m (package_at vs (get_or us i d)) ≡ Some n
+    → fold_package meta m (package_of_version vs (get_or us i d)) ≡ Some n
     → fold_package meta m (operations_of vs (drop i us)) ≡ fold_package meta n (operations_of vs (drop (i + 1) us))
 version_on meta m n vs us i d below is =
     ap (λ l. fold_package meta m (operations_of vs l)) (drop-cons us i d below)
-    ∙ ap (fold meta m) (steps_append (package_at vs (get_or us i d)) (operations_of vs (drop (suc i) us)))
-    ∙ fold_append meta m n (steps_all (package_at vs (get_or us i d))) (steps_all (operations_of vs (drop (suc i) us))) is
+    ∙ ap (fold meta m) (steps_append (package_of_version vs (get_or us i d)) (operations_of vs (drop (suc i) us)))
+    ∙ fold_append meta m n (steps_all (package_of_version vs (get_or us i d))) (steps_all (operations_of vs (drop (suc i) us))) is
     ∙ ap (λ (k : ℕ). fold_package meta n (operations_of vs (drop k us))) next
   where
     next : suc i ≡ i + 1
@@ -88,17 +88,17 @@ version_on meta m n vs us i d below is =
 
 -- one whose package can't be taken leads nowhere
 pub version_none : (meta : Meta) (m : State) (vs : List Version) (us : List ℕ) (i d : ℕ) → i < length us
-    → fold_package meta m (package_at vs (get_or us i d)) ≡ None → fold_package meta m (operations_of vs (drop i us)) ≡ None
+    → fold_package meta m (package_of_version vs (get_or us i d)) ≡ None → fold_package meta m (operations_of vs (drop i us)) ≡ None
 version_none meta m vs us i d below is =
     ap (λ l. fold_package meta m (operations_of vs l)) (drop-cons us i d below)
-    ∙ ap (fold meta m) (steps_append (package_at vs (get_or us i d)) (operations_of vs (drop (suc i) us)))
-    ∙ fold_append_none meta m (steps_all (package_at vs (get_or us i d))) (steps_all (operations_of vs (drop (suc i) us))) is
+    ∙ ap (fold meta m) (steps_append (package_of_version vs (get_or us i d)) (operations_of vs (drop (suc i) us)))
+    ∙ fold_append_none meta m (steps_all (package_of_version vs (get_or us i d))) (steps_all (operations_of vs (drop (suc i) us))) is
 
 -- a call that failed at a version whose package can't be taken failed on a path that leads nowhere
 pub cannot_follow : (meta : Meta) (start m : State) (vs : List Version) (us : List ℕ) (i d : ℕ) (e : StepFault) (r : Result (Unit {0}) StepFault)
     → IsErr r → IsErrAnd r (λ f. f ≡ e) → i < length us
     → fold_package meta start (operations_of vs us) ≡ fold_package meta m (operations_of vs (drop i us))
-    → (e ≢ Memory → fold_package meta m (package_at vs (get_or us i d)) ≡ None)
+    → (e ≢ Memory → fold_package meta m (package_of_version vs (get_or us i d)) ≡ None)
     → IfErr r (λ f. f ≢ Memory → fold_package meta start (operations_of vs us) ≡ None)
 cannot_follow meta start m vs us i d e (Ok x) is_err is below same cannot = absurd cc
 cannot_follow meta start m vs us i d e (Err f) is_err is below same cannot =

@@ -1,7 +1,7 @@
 -- What a cache has of a history: states of its versions, each as a package that leads to it.
 use Rattle.std.specs.Prelude.{◌≡◌, ℕ, ◌+◌, ◌<◌, ◌≤◌, List, [], length, All, Option, Some, None}
 use Rattle.ecore_meta.specs.Meta.{Meta}
-use Rattle.state_form.specs.Form.{IsStateForm, state_size}
+use Rattle.state_form.specs.Form.{IsStateEncoding, state_size}
 use Rattle.history_tree.specs.History.{History}
 use Rattle.history_tree.specs.States.{state_of}
 use Rattle.page_pool.specs.Frames.{Frames, out_of}
@@ -9,13 +9,13 @@ use Rattle.state_cache.specs.Entries.{Entries, IsCached, IsFirst, KeepsApart, he
 
 -- ---- what entries are
 -- the entry is of a version that is there, and has its state
-abbrev pub IsVersionForm : Meta → History → ℕ × List ℕ → Type 0
-IsVersionForm meta h e = (e.0 < length h.versions) × IsStateForm meta (state_of meta h e.0) e.1
+abbrev pub IsVersionEncoding : Meta → History → ℕ × List ℕ → Type 0
+IsVersionEncoding meta h e = (e.0 < length h.versions) × IsStateEncoding meta (state_of meta h e.0) e.1
 
 -- each entry is; before there is a metamodel there is none
-abbrev pub AreForms : Option Meta → History → List (ℕ × List ℕ) → Type 0
-AreForms None h entries = entries ≡ []
-AreForms (Some meta) h entries = All (IsVersionForm meta h) entries
+abbrev pub AreEncodings : Option Meta → History → List (ℕ × List ℕ) → Type 0
+AreEncodings None h entries = entries ≡ []
+AreEncodings (Some meta) h entries = All (IsVersionEncoding meta h) entries
 
 -- ---- what calls ask and leave
 -- the frames that the cache holds are out of the pool, each once, and not too many others are

@@ -7,7 +7,7 @@ ghost use Rattle.model_state.specs.Packages.{fold_package};
 ghost use Rattle.history_tree.specs.States.{operations_of, state_folded, state_of};
 ghost use Rattle.state_form.specs.Spelled.{IsSpelled};
 ghost use Rattle.state_cache.specs.Entries.{IsFirst, stands};
-ghost use Rattle.version_states.specs.Cached.{AreForms, IsVersionForm, LeavesFirst, MayUse, Uses};
+ghost use Rattle.version_states.specs.Cached.{AreEncodings, IsVersionEncoding, LeavesFirst, MayUse, Uses};
 
 use crate::states::follow;
 use ecore_meta::Metamodel;
@@ -30,7 +30,7 @@ fn read_state(
     bytes: &[u8],
 ) -> Result<Working, AllocError>
     requires sound { Sound meta.now }
-    requires form { IsVersionForm meta.now _history.now.history (_v, bytes.now) }
+    requires form { IsVersionEncoding meta.now _history.now.history (_v, bytes.now) }
     ensures state { IfOk result (λ m. m ≡ state_of meta.now _history.now.history _v) }
     ensures good { IfOk result (λ m. Good meta.now m) }
 {
@@ -60,14 +60,14 @@ pub(crate) fn cached_state(
 ) -> Result<Option<Working>, AllocError>
     requires sound { Sound meta.now }
     requires usable { MayUse pool.now cache.old }
-    requires forms { AreForms (Some meta.now) history.now.history (stands pool.now cache.old) }
+    requires forms { AreEncodings (Some meta.now) history.now.history (stands pool.now cache.old) }
     ensures state { IfOk result (λ found. IfSome found (λ m. m ≡ state_of meta.now history.now.history v)) }
     ensures good { IfOk result (λ found. IfSome found (λ m. Good meta.now m)) }
     ensures first { IfOk result (λ found. IfSome found (λ _. IsFirst v cache.new)) }
     ensures none { IfOk result (λ found. IfNone found (lookup (nat_eq v) (stands pool.now cache.old) ≡ None)) }
     ensures same { IfOk result (λ found. IfNone found (cache.new ≡ cache.old)) }
     ensures uses { Uses pool.now pool.now cache.old cache.new }
-    ensures forms { AreForms (Some meta.now) history.now.history (stands pool.now cache.new) }
+    ensures forms { AreEncodings (Some meta.now) history.now.history (stands pool.now cache.new) }
 {
     match cache.lookup(pool, v)? {
         None => Ok(None),
@@ -93,14 +93,14 @@ pub(crate) fn nearest(
     requires there { v < length history.now.history.versions }
     requires leads { is_some (state_folded meta.now history.now.history v) ≡ true }
     requires usable { MayUse pool.now cache.old }
-    requires forms { AreForms (Some meta.now) history.now.history (stands pool.now cache.old) }
+    requires forms { AreEncodings (Some meta.now) history.now.history (stands pool.now cache.old) }
     ensures leads { IfOk result (λ r. state_folded meta.now history.now.history v ≡ fold_package meta.now r.1 (operations_of history.now.history.versions r.0.items)) }
     ensures good { IfOk result (λ r. Good meta.now r.1) }
     ensures there { IfOk result (λ r. All (λ u. u < length history.now.history.versions) r.0.items) }
     // So no more steps are taken than there are after the last version that has an entry.
     ensures missing { IfOk result (λ r. All (λ u. u ≢ v → lookup (nat_eq u) (stands pool.now cache.old) ≡ None) r.0.items) }
     ensures uses { Uses pool.now pool.now cache.old cache.new }
-    ensures forms { AreForms (Some meta.now) history.now.history (stands pool.now cache.new) }
+    ensures forms { AreEncodings (Some meta.now) history.now.history (stands pool.now cache.new) }
 {
     history.recall_wholeness();
     let mut back = Vec::new(alloc);
@@ -134,10 +134,10 @@ pub(crate) fn keep_state(
     requires good { Good meta.now model.now }
     requires spelled { IsSpelled meta.now model.now }
     requires usable { MayUse pool.old cache.old }
-    requires forms { AreForms (Some meta.now) history.now.history (stands pool.old cache.old) }
+    requires forms { AreEncodings (Some meta.now) history.now.history (stands pool.old cache.old) }
     ensures first { OnOk result (LeavesFirst meta.now history.now.history v cache.new) }
     ensures uses { Uses pool.old pool.new cache.old cache.new }
-    ensures forms { AreForms (Some meta.now) history.now.history (stands pool.new cache.new) }
+    ensures forms { AreEncodings (Some meta.now) history.now.history (stands pool.new cache.new) }
 {
     let Some(bytes) = encode_state(alloc, model, meta)? else {
         return Ok(());

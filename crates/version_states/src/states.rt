@@ -8,7 +8,7 @@ ghost use Rattle.model_state.specs.Steps.{fault_along, first_stop, fold};
 ghost use Rattle.history_tree.specs.States.{operations_of, state_folded, state_of};
 ghost use Rattle.state_form.specs.Spelled.{IsSpelled};
 ghost use Rattle.state_cache.specs.Entries.{stands};
-ghost use Rattle.version_states.specs.Cached.{AreForms, LeavesFirst, MayUse, Uses};
+ghost use Rattle.version_states.specs.Cached.{AreEncodings, LeavesFirst, MayUse, Uses};
 ghost use Rattle.version_states.specs.Taking.{LedTo, StepsLedTo};
 
 use crate::cached::{cached_state, keep_state, nearest};
@@ -42,7 +42,7 @@ pub fn take_steps(model: &mut Working, meta: &Metamodel, steps: &[Step]) -> Resu
     ensures cannot { IfErr result (λ e. IsFault (fault_along meta.now model.old steps.now) e) }
     ensures good { Good meta.now model.new }
 {
-    match model.replay(meta, steps) {
+    match model.take_in_order(meta, steps) {
         Ok(()) => Ok(()),
         Err(stop) => Err(stop.fault),
     }
@@ -156,7 +156,7 @@ pub fn stop_in(
 {
     meta.recall_soundness();
     let mut steps = copy_steps(alloc, operations)?.into_vec();
-    match model.replay(meta, steps.as_slice()) {
+    match model.take_in_order(meta, steps.as_slice()) {
         Ok(()) => {
             untake(alloc, model, meta, List::from_vec(steps))?;
             Ok(None)
@@ -205,11 +205,11 @@ fn build_state(
     requires there { v < length history.now.history.versions }
     requires leads { is_some (state_folded meta.now history.now.history v) ≡ true }
     requires usable { MayUse pool.now cache.old }
-    requires forms { AreForms (Some meta.now) history.now.history (stands pool.now cache.old) }
+    requires forms { AreEncodings (Some meta.now) history.now.history (stands pool.now cache.old) }
     ensures state { IfOk result (λ m. m ≡ state_of meta.now history.now.history v) }
     ensures good { IfOk result (λ m. Good meta.now m) }
     ensures uses { Uses pool.now pool.now cache.old cache.new }
-    ensures forms { AreForms (Some meta.now) history.now.history (stands pool.now cache.new) }
+    ensures forms { AreEncodings (Some meta.now) history.now.history (stands pool.now cache.new) }
 {
     let (rest, model) = nearest(alloc, cache, pool, meta, history, v)?;
     let mut model = model;
@@ -236,12 +236,12 @@ pub fn state_at(
     requires leads { is_some (state_folded meta.now history.now.history v) ≡ true }
     requires spelled { IsSpelled meta.now (state_of meta.now history.now.history v) }
     requires usable { MayUse pool.old cache.old }
-    requires forms { AreForms (Some meta.now) history.now.history (stands pool.old cache.old) }
+    requires forms { AreEncodings (Some meta.now) history.now.history (stands pool.old cache.old) }
     ensures state { IfOk result (λ m. m ≡ state_of meta.now history.now.history v) }
     ensures good { IfOk result (λ m. Good meta.now m) }
     ensures first { OnOk result (LeavesFirst meta.now history.now.history v cache.new) }
     ensures uses { Uses pool.old pool.new cache.old cache.new }
-    ensures forms { AreForms (Some meta.now) history.now.history (stands pool.new cache.new) }
+    ensures forms { AreEncodings (Some meta.now) history.now.history (stands pool.new cache.new) }
 {
     meta.recall_soundness();
     if let Some(model) = cached_state(alloc, cache, pool, meta, history, v)? {

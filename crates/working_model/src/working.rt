@@ -13,7 +13,7 @@ use crate::deletions::kept_up_to;
 use ecore_meta::Metamodel;
 use edits::numbered_id;
 use model_graph::Graph;
-use model_laws::replay;
+use model_laws::take_in_order;
 use model_state::{ApplyFault, Id, Look, Step};
 use std::alloc::{AllocError, Global};
 use std::marker::Model;
@@ -80,7 +80,7 @@ impl Working {
     }
 
     /// Takes the steps one by one, up to the first that can't be taken, whose place, from 0, and fault it gives. The steps before it are taken then.
-    pub fn replay(&mut self, meta: &Metamodel, steps: &[Step]) -> Result<(), ApplyFault>
+    pub fn take_in_order(&mut self, meta: &Metamodel, steps: &[Step]) -> Result<(), ApplyFault>
         requires good { Good meta.now self.old }
         ensures done { OnOk result (fold meta.now self.old steps.now ≡ Some self.new) }
         ensures cannot { IfErr result (λ e. IsApplyFault (first_stop meta.now self.old steps.now) e) }
@@ -89,13 +89,13 @@ impl Working {
     {
         let next = kept_up_to(self.alloc, self.ws, self.next, steps);
         self.next = 1;
-        replay(&mut self.model, meta, steps)?;
+        take_in_order(&mut self.model, meta, steps)?;
         self.next = next;
         Ok(())
     }
 
     /// The first id of a workspace that no live element has. The search begins where it ended the last time, or at the least
-    /// number whose id was deleted since. It begins at 1 where that was for another workspace, or a replay failed since.
+    /// number whose id was deleted since. It begins at 1 where that was for another workspace, or steps could not be taken since.
     pub fn fresh_id(&mut self, alloc: Global, ws: u32) -> Result<Id, AllocError>
         ensures id { IfOk result (λ id. id ≡ fresh_id self.old ws) }
         ensures form { OnOk result (is_id (fresh_id self.old ws) ≡ true) }

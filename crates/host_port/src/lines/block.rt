@@ -102,9 +102,9 @@ impl Block {
 
     /// Adds a line, which stands at an offset of the input.
     #[tactic(auto, using(crate::proofs::ScriptCuts::text_lemmas))]
-    fn add(&mut self, place: u64, line: &[u8]) -> Result<(), AllocError>
-        requires { place + length line.now < 2 ^ 64 }
-        ensures added { OnOk result (read_so_far self.new ≡ text_with place (read_so_far self.old) line.now) }
+    fn add(&mut self, offset: u64, line: &[u8]) -> Result<(), AllocError>
+        requires { offset + length line.now < 2 ^ 64 }
+        ensures added { OnOk result (read_so_far self.new ≡ text_with offset (read_so_far self.old) line.now) }
         ensures short { OnOk result (length (string_bytes self.new.text) ≤ length (string_bytes self.old.text) + length line.now + 1) }
     {
         if self.not_text.is_some() {
@@ -112,7 +112,7 @@ impl Block {
         }
         match std::str::from_utf8(line) {
             Err(error) => {
-                self.not_text = Some(place + error.valid_up_to() as u64);
+                self.not_text = Some(offset + error.valid_up_to() as u64);
                 Ok(())
             }
             Ok(line) => {
@@ -148,20 +148,20 @@ impl Block {
         start: u64,
         wait: &mut u32,
     ) -> Result<(), AllocError>
-        requires started { start ≤ unread.old.place }
-        requires near { unread.old.place ≤ start + block_limit }
+        requires started { start ≤ unread.old.offset }
+        requires near { unread.old.offset ≤ start + block_limit }
         ensures step { OnOk result ((takes : List ℕ → Bool) (line left : List ℕ) →
-            cut_block takes line start unread.old.place (read_so_far self.old) (slice_split is_lf (unread.old.pending ++ left))
-            ≡ cut_block takes line start unread.new.place (read_so_far self.new) (slice_split is_lf (unread.new.pending ++ left))) }
-        ensures near { OnOk result (unread.new.place ≤ start + block_limit) }
-        ensures short { OnOk result (length (string_bytes self.old.text) + start ≤ unread.old.place → length (string_bytes self.new.text) + start ≤ unread.new.place) }
-        ensures later { unread.old.place ≤ unread.new.place }
+            cut_block takes line start unread.old.offset (read_so_far self.old) (slice_split is_lf (unread.old.pending ++ left))
+            ≡ cut_block takes line start unread.new.offset (read_so_far self.new) (slice_split is_lf (unread.new.pending ++ left))) }
+        ensures near { OnOk result (unread.new.offset ≤ start + block_limit) }
+        ensures short { OnOk result (length (string_bytes self.old.text) + start ≤ unread.old.offset → length (string_bytes self.new.text) + start ≤ unread.new.offset) }
+        ensures later { unread.old.offset ≤ unread.new.offset }
     {
         if *wait > 0 {
             *wait -= 1;
             return Ok(());
         }
-        let room = (BLOCK_LIMIT - (unread.place - start)) as usize;
+        let room = (BLOCK_LIMIT - (unread.offset - start)) as usize;
         let bytes = unread.pending.as_slice();
         let run = run_len(bytes, room);
         if run > 0 && self.add_run(&bytes[..run])? {
@@ -183,16 +183,16 @@ impl Block {
     ) -> Result<bool, LineFault>
         requires len { len ≤ length unread.old.pending }
         requires feed { stop ≡ Stop.Feed → len < length unread.old.pending }
-        requires near { stop ≢ Stop.Far → unread.old.place + len < 2 ^ 40 }
-        requires start { start ≤ unread.old.place }
-        ensures line { BlockLine stop start unread.old.place (read_so_far self.old) (read_so_far self.new) (take len unread.old.pending) result }
+        requires near { stop ≢ Stop.Far → unread.old.offset + len < 2 ^ 40 }
+        requires start { start ≤ unread.old.offset }
+        ensures line { BlockLine stop start unread.old.offset (read_so_far self.old) (read_so_far self.new) (take len unread.old.pending) result }
         ensures pending { OnOk result (unread.new.pending ≡ drop (if is_feed stop then len + 1 else len) unread.old.pending) }
-        ensures place { OnOk result (unread.new.place ≡ unread.old.place + (if is_feed stop then len + 1 else len)) }
-        ensures short { OnOk result (length (string_bytes self.old.text) + start ≤ unread.old.place → length (string_bytes self.new.text) + start ≤ unread.new.place) }
-        ensures near { IfOk result (λ end. end ≡ false → unread.new.place ≤ start + block_limit) }
+        ensures offset { OnOk result (unread.new.offset ≡ unread.old.offset + (if is_feed stop then len + 1 else len)) }
+        ensures short { OnOk result (length (string_bytes self.old.text) + start ≤ unread.old.offset → length (string_bytes self.new.text) + start ≤ unread.new.offset) }
+        ensures near { IfOk result (λ end. end ≡ false → unread.new.offset ≤ start + block_limit) }
         ensures same { IfOk result (λ end. IsTrue end → string_bytes self.new.text ≡ string_bytes self.old.text) }
         ensures not_failed { IfErr result (λ e. e ≢ LineFault.Failed) }
-        ensures later { unread.old.place ≤ unread.new.place }
+        ensures later { unread.old.offset ≤ unread.new.offset }
     {
         if let Stop::Far = stop {
             return Err(far_fault(start));
@@ -204,14 +204,14 @@ impl Block {
             unread.go_past(past);
             return Ok(true);
         }
-        let behind = unread.place + past as u64;
+        let behind = unread.offset + past as u64;
         if behind - start > BLOCK_LIMIT {
             return Err(far_fault(start));
         }
         if !ended {
             return Err(LineFault::UnendedBlock { at: behind });
         }
-        if self.add(unread.place, line).is_err() {
+        if self.add(unread.offset, line).is_err() {
             return Err(LineFault::Memory);
         }
         unread.go_past(past);
@@ -225,23 +225,23 @@ impl Block {
         host: &mut H,
         start: u64,
     ) -> Result<bool, LineFault>
-        requires { start ≤ unread.old.place }
+        requires { start ≤ unread.old.offset }
         ensures step { IsTrue (H.told host.old).tells → (takes : List ℕ → Bool) (line : List ℕ) → GotBlockLine result
-            (cut_block takes line start unread.old.place (read_so_far self.old) (slice_split is_lf (unread.old.pending ++ (H.told host.old).left)))
-            (cut_block takes line start unread.new.place (read_so_far self.new) (slice_split is_lf (unread.new.pending ++ (H.told host.new).left)))
-            (after_block line (read_so_far self.new) (script_from takes unread.new.place (unread.new.pending ++ (H.told host.new).left))) }
-        ensures short { OnOk result (length (string_bytes self.old.text) + start ≤ unread.old.place → length (string_bytes self.new.text) + start ≤ unread.new.place) }
-        ensures near { IfOk result (λ end. end ≡ false → unread.new.place ≤ start + block_limit) }
+            (cut_block takes line start unread.old.offset (read_so_far self.old) (slice_split is_lf (unread.old.pending ++ (H.told host.old).left)))
+            (cut_block takes line start unread.new.offset (read_so_far self.new) (slice_split is_lf (unread.new.pending ++ (H.told host.new).left)))
+            (after_block line (read_so_far self.new) (script_from takes unread.new.offset (unread.new.pending ++ (H.told host.new).left))) }
+        ensures short { OnOk result (length (string_bytes self.old.text) + start ≤ unread.old.offset → length (string_bytes self.new.text) + start ≤ unread.new.offset) }
+        ensures near { IfOk result (λ end. end ≡ false → unread.new.offset ≤ start + block_limit) }
         ensures same { IfOk result (λ end. IsTrue end → string_bytes self.new.text ≡ string_bytes self.old.text) }
-        ensures later { unread.old.place ≤ unread.new.place }
-        ensures advances { IfOk result (λ end. end ≡ false → unread.old.place < unread.new.place) }
+        ensures later { unread.old.offset ≤ unread.new.offset }
+        ensures advances { IfOk result (λ end. end ≡ false → unread.old.offset < unread.new.offset) }
         ensures course { GoesOn (H.told host.old) (H.told host.new) }
         ensures disk { KeepsDisk (H.told host.old) (H.told host.new) }
         ensures said { KeepsSaid (H.told host.old) (H.told host.new) }
         ensures alone { RaisesTakesAlone (H.told host.old) (H.told host.new) }
         ensures cause { IsErrOf result LineFault.Failed → Rose (H.told host.old).take_faults (H.told host.new).take_faults }
     {
-        let used = unread.place - start;
+        let used = unread.offset - start;
         let longest = if used + 2 >= BLOCK_LIMIT {
             2
         } else {
@@ -254,17 +254,17 @@ impl Block {
     /// All lines up to one that is just `.`.
     pub fn read<H: Host>(&mut self, unread: &mut Unread, host: &mut H) -> Result<(), LineFault>
         ensures block { IsTrue (H.told host.old).tells → (takes : List ℕ → Bool) (line : List ℕ) → GotBlock result (string_bytes self.new.text) line
-            (cut_block takes line unread.old.place unread.old.place (Ok []) (slice_split is_lf (unread.old.pending ++ (H.told host.old).left)))
-            (script_from takes unread.new.place (unread.new.pending ++ (H.told host.new).left)) }
+            (cut_block takes line unread.old.offset unread.old.offset (Ok []) (slice_split is_lf (unread.old.pending ++ (H.told host.old).left)))
+            (script_from takes unread.new.offset (unread.new.pending ++ (H.told host.new).left)) }
         ensures short { OnOk result (length (string_bytes self.new.text) ≤ block_limit) }
-        ensures later { unread.old.place ≤ unread.new.place }
+        ensures later { unread.old.offset ≤ unread.new.offset }
         ensures course { GoesOn (H.told host.old) (H.told host.new) }
         ensures disk { KeepsDisk (H.told host.old) (H.told host.new) }
         ensures said { KeepsSaid (H.told host.old) (H.told host.new) }
         ensures alone { RaisesTakesAlone (H.told host.old) (H.told host.new) }
         ensures cause { IsErrOf result LineFault.Failed → Rose (H.told host.old).take_faults (H.told host.new).take_faults }
     {
-        let start = unread.place;
+        let start = unread.offset;
         self.clear();
         let mut wait = 0;
         'lines: loop {

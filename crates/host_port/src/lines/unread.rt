@@ -28,8 +28,8 @@ pub enum Stop {
 #[derive(Drop)]
 pub struct Unread {
     pub pending: Pending,
-    pub place: u64,
-    ghost within: { place + length pending ≤ 2 ^ 40 },
+    pub offset: u64,
+    ghost within: { offset + length pending ≤ 2 ^ 40 },
 }
 
 /// The first line feed, where none stands before an offset.
@@ -49,23 +49,23 @@ impl Unread {
     /// Nothing is at hand, and the input is at its start.
     pub fn new(alloc: Global) -> Unread
         ensures pending { result.pending ≡ [] }
-        ensures place { result.place ≡ 0 }
+        ensures offset { result.offset ≡ 0 }
     {
         Unread {
             pending: Pending::new(alloc),
-            place: 0,
+            offset: 0,
         }
     }
 
     /// Takes a piece more; false at the end of the input.
     fn fill<H: Host>(&mut self, host: &mut H) -> Result<bool, LineFault>
-        requires room { self.old.place + length self.old.pending < 2 ^ 40 }
+        requires room { self.old.offset + length self.old.pending < 2 ^ 40 }
         ensures unread { IsTrue (H.told host.old).tells → OnOk result (self.new.pending ++ (H.told host.new).left ≡ self.old.pending ++ (H.told host.old).left) }
         ensures more { IfOk result (λ more. IsTrue more → length self.old.pending < length self.new.pending) }
         ensures end { IsTrue (H.told host.old).tells → IfOk result (λ more. more ≡ false → (H.told host.new).left ≡ []) }
         ensures same { IfOk result (λ more. more ≡ false → self.new.pending ≡ self.old.pending) }
         ensures front { OnOk result (take (length self.old.pending) self.new.pending ≡ self.old.pending) }
-        ensures place { self.new.place ≡ self.old.place }
+        ensures offset { self.new.offset ≡ self.old.offset }
         ensures err { IfErr result (λ e. (e ≡ LineFault.Failed) ⊎ (e ≡ LineFault.Memory)) }
         ensures course { GoesOn (H.told host.old) (H.told host.new) }
         ensures disk { KeepsDisk (H.told host.old) (H.told host.new) }
@@ -74,7 +74,7 @@ impl Unread {
         ensures cause { IsErrOf result LineFault.Failed → Rose (H.told host.old).take_faults (H.told host.new).take_faults }
     {
         let mut piece = [0u8; PIECE];
-        let room = INPUT_LIMIT - self.place - self.pending.len() as u64;
+        let room = INPUT_LIMIT - self.offset - self.pending.len() as u64;
         let size = room.min(PIECE as u64) as usize;
         let Ok(count) = host.take(&mut piece[..size]) else {
             return Err(LineFault::Failed);
@@ -96,11 +96,11 @@ impl Unread {
         ensures feed { IfOk result (λ r. r.1 ≡ Stop.Feed → (r.0 < length self.new.pending) × (slice_index self.new.pending r.0 ≡ 10)) }
         ensures all { IfOk result (λ r. r.1 ≢ Stop.Feed → r.0 ≡ length self.new.pending) }
         ensures end { IsTrue (H.told host.old).tells → IfOk result (λ r. r.1 ≡ Stop.Close → (H.told host.new).left ≡ []) }
-        ensures far { IfOk result (λ r. r.1 ≡ Stop.Far → (longest < r.0) ⊎ (self.new.place + r.0 ≡ 2 ^ 40)) }
-        ensures near { IfOk result (λ r. r.1 ≡ Stop.Close → self.new.place + r.0 < 2 ^ 40) }
+        ensures far { IfOk result (λ r. r.1 ≡ Stop.Far → (longest < r.0) ⊎ (self.new.offset + r.0 ≡ 2 ^ 40)) }
+        ensures near { IfOk result (λ r. r.1 ≡ Stop.Close → self.new.offset + r.0 < 2 ^ 40) }
         ensures short { IfOk result (λ r. r.1 ≡ Stop.Close → r.0 ≤ longest) }
         ensures err { IfErr result (λ e. (e ≡ LineFault.Failed) ⊎ (e ≡ LineFault.Memory)) }
-        ensures place { self.new.place ≡ self.old.place }
+        ensures offset { self.new.offset ≡ self.old.offset }
         ensures course { GoesOn (H.told host.old) (H.told host.new) }
         ensures disk { KeepsDisk (H.told host.old) (H.told host.new) }
         ensures said { KeepsSaid (H.told host.old) (H.told host.new) }
@@ -113,7 +113,7 @@ impl Unread {
                 return Ok((at, Stop::Feed));
             }
             clear = self.pending.len();
-            if clear > longest || self.place + clear as u64 == INPUT_LIMIT {
+            if clear > longest || self.offset + clear as u64 == INPUT_LIMIT {
                 return Ok((clear, Stop::Far));
             }
             if !self.fill(host)? {
@@ -125,12 +125,12 @@ impl Unread {
     /// Makes the next line the text.
     pub fn read_line<H: Host>(&mut self, text: &mut String, host: &mut H) -> Result<Got, LineFault>
         ensures line { IsTrue (H.told host.old).tells →
-            GotLine result (string_bytes text.new) (next_line_of self.old.place (self.old.pending ++ (H.told host.old).left)) }
+            GotLine result (string_bytes text.new) (next_line_of self.old.offset (self.old.pending ++ (H.told host.old).left)) }
         ensures past { IsTrue (H.told host.old).tells → OnOk result (PastLine
-            (self.old.pending ++ (H.told host.old).left) (self.new.pending ++ (H.told host.new).left) self.old.place self.new.place) }
+            (self.old.pending ++ (H.told host.old).left) (self.new.pending ++ (H.told host.new).left) self.old.offset self.new.offset) }
         ensures end { IsTrue (H.told host.old).tells → IfOk result (λ got. got ≡ Got.End → (H.told host.new).left ≡ []) }
         ensures short { IfOk result (λ got. got ≡ Got.Line → length (string_bytes text.new) ≤ line_limit) }
-        ensures advances { IfOk result (λ got. got ≡ Got.Line → self.old.place < self.new.place) }
+        ensures advances { IfOk result (λ got. got ≡ Got.Line → self.old.offset < self.new.offset) }
         ensures course { GoesOn (H.told host.old) (H.told host.new) }
         ensures disk { KeepsDisk (H.told host.old) (H.told host.new) }
         ensures said { KeepsSaid (H.told host.old) (H.told host.new) }
@@ -151,9 +151,9 @@ impl Unread {
             × ((k : ℕ) → k < r.0 → slice_index self.new.pending k ≢ 10)) }
         ensures end { IsTrue (H.told host.old).tells → IfOk result (λ r. r.1 ≡ false → (H.told host.new).left ≡ []) }
         ensures limit { IfOk result (λ r. r.0 ≤ line_limit) }
-        ensures within { IfOk result (λ r. self.new.place + r.0 < 2 ^ 40) }
-        ensures fault { IsTrue (H.told host.old).tells → IfErr result (λ e. IsLineFault e (next_line_of self.old.place (self.old.pending ++ (H.told host.old).left))) }
-        ensures place { self.new.place ≡ self.old.place }
+        ensures within { IfOk result (λ r. self.new.offset + r.0 < 2 ^ 40) }
+        ensures fault { IsTrue (H.told host.old).tells → IfErr result (λ e. IsLineFault e (next_line_of self.old.offset (self.old.pending ++ (H.told host.old).left))) }
+        ensures offset { self.new.offset ≡ self.old.offset }
         ensures course { GoesOn (H.told host.old) (H.told host.new) }
         ensures disk { KeepsDisk (H.told host.old) (H.told host.new) }
         ensures said { KeepsSaid (H.told host.old) (H.told host.new) }
@@ -169,17 +169,17 @@ impl Unread {
     }
 
     fn within_limit(&self, len: usize, ended: bool) -> Result<(usize, bool), LineFault>
-        ensures ok { IfOk result (λ r. (r.0 ≡ len) × (r.1 ≡ ended) × (len ≤ line_limit) × (self.now.place + len < 2 ^ 40)) }
-        ensures err { IfErr result (λ e. ((line_limit < len) × (e ≡ LineFault.LineTooLong (self.now.place + line_limit)))
-            ⊎ ((len ≤ line_limit) × (2 ^ 40 ≤ self.now.place + len) × (e ≡ LineFault.InputTooLong input_limit))) }
+        ensures ok { IfOk result (λ r. (r.0 ≡ len) × (r.1 ≡ ended) × (len ≤ line_limit) × (self.now.offset + len < 2 ^ 40)) }
+        ensures err { IfErr result (λ e. ((line_limit < len) × (e ≡ LineFault.LineTooLong (self.now.offset + line_limit)))
+            ⊎ ((len ≤ line_limit) × (2 ^ 40 ≤ self.now.offset + len) × (e ≡ LineFault.InputTooLong input_limit))) }
     {
         let len_64 = len as u64;
         if len_64 > LINE_LIMIT {
             return Err(LineFault::LineTooLong {
-                at: self.place.saturating_add(LINE_LIMIT),
+                at: self.offset.saturating_add(LINE_LIMIT),
             });
         }
-        if self.place >= INPUT_LIMIT - len_64 {
+        if self.offset >= INPUT_LIMIT - len_64 {
             return Err(LineFault::InputTooLong { at: INPUT_LIMIT });
         }
         Ok((len, ended))
@@ -190,11 +190,11 @@ impl Unread {
         requires len { len ≤ length self.old.pending }
         requires ended { IsTrue ended → len < length self.old.pending }
         requires whole { ended ≡ false → len ≡ length self.old.pending }
-        ensures line { GotLine result (string_bytes text.new) (line_or_end self.old.place (take len self.old.pending) ended) }
+        ensures line { GotLine result (string_bytes text.new) (line_or_end self.old.offset (take len self.old.pending) ended) }
         ensures short { IfOk result (λ got. got ≡ Got.Line → length (string_bytes text.new) ≤ len) }
         ensures pending { OnOk result (self.new.pending ≡ drop (if ended then len + 1 else len) self.old.pending) }
-        ensures place { OnOk result (self.new.place ≡ self.old.place + (if ended then len + 1 else len)) }
-        ensures advances { IfOk result (λ got. got ≡ Got.Line → self.old.place < self.new.place) }
+        ensures offset { OnOk result (self.new.offset ≡ self.old.offset + (if ended then len + 1 else len)) }
+        ensures advances { IfOk result (λ got. got ≡ Got.Line → self.old.offset < self.new.offset) }
         ensures end { IfOk result (λ got. got ≡ Got.End → ended ≡ false) }
         ensures not_failed { IfErr result (λ e. e ≢ LineFault.Failed) }
     {
@@ -210,16 +210,16 @@ impl Unread {
     fn take_text(&mut self, text: &mut String, len: usize, ended: bool) -> Result<(), LineFault>
         requires len { len ≤ length self.old.pending }
         requires ended { IsTrue ended → len < length self.old.pending }
-        ensures text { OnOk result (text_at self.old.place (line_bytes ended (take len self.old.pending)) ≡ Ok (string_bytes text.new)) }
+        ensures text { OnOk result (text_at self.old.offset (line_bytes ended (take len self.old.pending)) ≡ Ok (string_bytes text.new)) }
         ensures short { OnOk result (length (string_bytes text.new) ≤ len) }
         ensures pending { OnOk result (self.new.pending ≡ drop (if ended then len + 1 else len) self.old.pending) }
-        ensures place { OnOk result (self.new.place ≡ self.old.place + (if ended then len + 1 else len)) }
-        ensures fault { IfErr result (λ e. IsTextFault e (text_at self.old.place (line_bytes ended (take len self.old.pending)))) }
+        ensures offset { OnOk result (self.new.offset ≡ self.old.offset + (if ended then len + 1 else len)) }
+        ensures fault { IfErr result (λ e. IsTextFault e (text_at self.old.offset (line_bytes ended (take len self.old.pending)))) }
         ensures not_failed { IfErr result (λ e. e ≢ LineFault.Failed) }
     {
         set_text(
             text,
-            self.place,
+            self.offset,
             line_bytes(&self.pending.as_slice()[..len], ended),
         )?;
         self.go_past(if ended { len + 1 } else { len });
@@ -230,10 +230,10 @@ impl Unread {
     pub fn go_past(&mut self, count: usize)
         requires count { count ≤ length self.old.pending }
         ensures pending { self.new.pending ≡ drop count self.old.pending }
-        ensures place { self.new.place ≡ self.old.place + count }
+        ensures offset { self.new.offset ≡ self.old.offset + count }
     {
         self.pending.go_past(count);
-        self.place += count as u64;
+        self.offset += count as u64;
     }
 }
 
@@ -258,17 +258,17 @@ fn cut_cr(raw: &[u8]) -> &[u8]
 }
 
 #[tactic(auto, using(crate::proofs::ScriptCuts::text_lemmas))]
-fn set_text(text: &mut String, place: u64, bytes: &[u8]) -> Result<(), LineFault>
-    requires { place + length bytes.now < 2 ^ 64 }
-    ensures text { OnOk result (text_at place bytes.now ≡ Ok (string_bytes text.new)) }
+fn set_text(text: &mut String, offset: u64, bytes: &[u8]) -> Result<(), LineFault>
+    requires { offset + length bytes.now < 2 ^ 64 }
+    ensures text { OnOk result (text_at offset bytes.now ≡ Ok (string_bytes text.new)) }
     ensures short { OnOk result (length (string_bytes text.new) ≤ length bytes.now) }
-    ensures fault { IfErr result (λ e. IsTextFault e (text_at place bytes.now)) }
+    ensures fault { IfErr result (λ e. IsTextFault e (text_at offset bytes.now)) }
     ensures not_failed { IfErr result (λ e. e ≢ LineFault.Failed) }
 {
     text.clear();
     match std::str::from_utf8(bytes) {
         Err(error) => Err(LineFault::NotText {
-            at: place + error.valid_up_to() as u64,
+            at: offset + error.valid_up_to() as u64,
         }),
         Ok(line) => match text.push_str(line) {
             Ok(()) => Ok(()),

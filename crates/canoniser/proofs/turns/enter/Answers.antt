@@ -2,7 +2,7 @@
 use Rattle.std.proofs.Common.{◌<◌, length, sym, ap, subst, refl, ◌∙◌, arith, length-append, true, [], ◌∷◌}
 use Rattle.footprint.proofs.Printed.{as_many}
 use Rattle.merge_laws.specs.Rules.{Settles}
-use Rattle.canoniser.specs.Meetings.{kept, Calm, Ready}
+use Rattle.canoniser.specs.Meetings.{standing_of, Calm, Ready}
 use Rattle.canoniser.proofs.Comes.{calm_ready, kept_more}
 use Rattle.canoniser.proofs.Turning.{on_some, on_none, if_some}
 use Rattle.canoniser.proofs.turns.enter.Goals as goal
@@ -19,7 +19,7 @@ loop-place-init c = record {
   ready = calm_ready c.args.meta.now c.args.standing.now.stands.items c.put.new.self.stands.items c.args.list.now.items
       (length c.stands-at.result.now) c.requires.calm c.requires.more c.in_ok-put.ensures.stands (ap length c.stands-at.ensures);
   leads = λ r h. subst (λ l. Settles c.args.meta.now l r)
-      (ap (λ s. kept s c.args.list.now.items) c.in_ok-put.ensures.stands
+      (ap (λ s. standing_of s c.args.list.now.items) c.in_ok-put.ensures.stands
       ∙ kept_more c.args.standing.now.stands.items c.args.list.now.items c.requires.more) h;
   many = let made = ap length c.in_ok-put.ensures.stands in let sum = length-append c.args.standing.now.stands.items (true ∷ []) in omega (arith, made, sum);
   size = refl;

@@ -1,7 +1,7 @@
 -- one operation more
 use Rattle.std.proofs.Common.{◌≡◌, ◌+◌, length, ap, subst, refl, ◌∙◌, arith}
 use Rattle.merge_laws.specs.Rules.{Settles}
-use Rattle.canoniser.specs.Meetings.{kept}
+use Rattle.canoniser.specs.Meetings.{standing_of}
 use Rattle.canoniser.proofs.Comes.{calm_none, calm_settles}
 use Rattle.canoniser.proofs.turns.settle.Goals as goal
 
@@ -10,7 +10,7 @@ loop-init c = record {
   keeps = c.in_ok-standing.ensures.keeps;
   printed = c.requires.printed;
   calm = calm_none c.args.meta.now c.in_ok-standing.standing.stands.items c.args.list.now.items c.in_ok-standing.ensures.none;
-  leads = λ r h. subst (λ l. Settles c.args.meta.now l r) (ap (λ s. kept s c.args.list.now.items) c.in_ok-standing.ensures.none) h;
+  leads = λ r h. subst (λ l. Settles c.args.meta.now l r) (ap (λ s. standing_of s c.args.list.now.items) c.in_ok-standing.ensures.none) h;
   many = ap length c.in_ok-standing.ensures.none;
   size = refl;
 }
@@ -31,5 +31,5 @@ returns-clause-settles c =
     let many = c.loop.invariant.many in
     let size = c.loop.invariant.size in
     let end : c.len-end.result ≡ length c.args.list.now.items = c.len-end.ensures ∙ c.args.list.now.ok.0 in
-    c.loop.invariant.leads (kept c.loop.standing.stands.items c.loop.list.items)
+    c.loop.invariant.leads (standing_of c.loop.standing.stands.items c.loop.list.items)
     (calm_settles c.args.meta.now c.loop.standing.stands.items c.loop.list.items c.loop.invariant.calm (omega (arith, past, many, size, end)))

@@ -3,7 +3,7 @@ use Rattle.std.proofs.Common.{ℕ, suc, ◌<◌, List, [], ◌∷◌, ◌++◌, 
 use Rattle.std.specs.Prelude.{All}
 use Rattle.std.proofs.lemmas.List.Elements.{All-weaker, All-contains}
 use Rattle.history_tree.specs.History.{path}
-use Rattle.history_tree.specs.States.{package_at}
+use Rattle.history_tree.specs.States.{package_of_version}
 use Rattle.history_tree.specs.Laws.{Rises, LeadsTo}
 use Rattle.change_index.specs.Written.{wrote}
 use Rattle.change_index.specs.Index.{wrote_in, index_of}
@@ -30,7 +30,7 @@ returns-clause-asked c meta h whole n v many low =
 pub returns-clause-last : goal.returns-clause-last
 returns-clause-last c meta h whole n v many low e f o last =
     let leads = c.law_of_histories.ensures.lead h whole v (omega (arith, many, low)) in
-    last_same (wrote_in (index_of meta (take n h.versions)) e f) (λ u. wrote meta (package_at h.versions u) e f) (path h v)
+    last_same (wrote_in (index_of meta (take n h.versions)) e f) (λ u. wrote meta (package_of_version h.versions u) e f) (path h v)
     (λ u there. wrote_in-first meta h.versions n u (All-contains (λ w. w < n) (path h v) u (path_low v n (path h v) leads low) there) e f)
     o last
 

@@ -14,13 +14,13 @@ pub overflow_add-at : goal.overflow_add-at
 overflow_add-at g c = let s = content_size c.args.pool.now c.args.paged.now c.requires.out c.requires.count
     in omega (arith, s, c.requires.limit, c.requires.count, c.loop-i-test.true, c.frames-i-end.ensures.count)
 
-pub write_at-requires-clause-place : goal.write_at-requires-clause-place
-write_at-requires-clause-place g c =
+pub write_at-requires-clause-offset : goal.write_at-requires-clause-offset
+write_at-requires-clause-offset g c =
     let s = content_size c.args.pool.now c.args.paged.now c.requires.out c.requires.count in
     let low : frame_size * c.loop-i.i ≤ length (content c.args.pool.now c.args.paged.now) =
     omega (arith, s, c.loop-i-test.true, c.frames-i-end.ensures.count) in
     λ told. place_fits (g.H.Host.told c.args.host.now) (g.H.Host.told c.loop-i.host) c.args.at (c.args.at + frame_size * c.loop-i.i)
-    (frame_size * c.loop-i.i) (content c.args.pool.now c.args.paged.now) c.loop-i.invariant refl low c.requires.place
+    (frame_size * c.loop-i.i) (content c.args.pool.now c.args.paged.now) c.loop-i.invariant refl low c.requires.offset
     (subst (λ b. IsTrue b) c.loop-i.invariant.course.tells told)
 
 pub write_at-requires-clause-limit : goal.write_at-requires-clause-limit
@@ -38,7 +38,7 @@ returns-in_err-write_at-clause-during g c =
     omega (arith, s, c.loop-i-test.true, c.frames-i-end.ensures.count) in
     piece_during (g.H.Host.told c.args.host.now) (g.H.Host.told c.loop-i.host) (g.H.Host.told c.write_at.new.self) c.args.at
     (c.args.at + frame_size * c.loop-i.i) (frame_size * c.loop-i.i)
-    (content c.args.pool.now c.args.paged.now) c.piece-piece.result.now c.loop-i.invariant refl low c.piece-piece.ensures.piece c.requires.place
+    (content c.args.pool.now c.args.paged.now) c.piece-piece.result.now c.loop-i.invariant refl low c.piece-piece.ensures.piece c.requires.offset
     c.write_at.ensures.course c.write_at.ensures.said c.write_at.ensures.input c.write_at.ensures.alone c.write_at.ensures.part
 
 pub loop-i-preserved : goal.loop-i-preserved
@@ -50,6 +50,6 @@ loop-i-preserved g c =
     subst (λ (n : ℕ). Wrote (g.H.Host.told c.args.host.now) (g.H.Host.told c.write_at.new.self) c.args.at (content c.args.pool.now c.args.paged.now) n) next
     (one_wrote (g.H.Host.told c.args.host.now) (g.H.Host.told c.loop-i.host) (g.H.Host.told c.write_at.new.self) c.args.at
     (c.args.at + frame_size * c.loop-i.i) (frame_size * c.loop-i.i)
-    (content c.args.pool.now c.args.paged.now) c.piece-piece.result.now c.loop-i.invariant refl low c.piece-piece.ensures.piece c.requires.place
+    (content c.args.pool.now c.args.paged.now) c.piece-piece.result.now c.loop-i.invariant refl low c.piece-piece.ensures.piece c.requires.offset
     c.write_at.ensures.course c.write_at.ensures.said c.write_at.ensures.input c.write_at.ensures.alone c.write_at.ensures.part
     c.in_ok-write_at.ensures.whole)

@@ -1,6 +1,6 @@
 use Rattle.std.proofs.Common.{◌≡◌, ◌∙◌, ap, sym, arith, length, List, Bool}
 use Rattle.std.specs.List.{list_any}
-use Rattle.ecore_drafts.specs.declared.drafts.Draft.{Draft}
+use Rattle.ecore_drafts.specs.declared.drafts.FeatureDraft.{FeatureDraft}
 use Rattle.ecore_build.specs.Faults.{any_from, bad_bound, bad_default, is_self, is_unanswered}
 use Rattle.ecore_build.proofs.BuildLaws.{fourth, no_last, third}
 use Rattle.ecore_build.proofs.building.last_fault.Goals as goal
@@ -16,13 +16,13 @@ told : {A : Type 0} (test : List A → Bool) {said told : Bool} {slice items : L
     → told ≡ test items
 told test says is same = sym says ∙ is ∙ ap test same
 
-abbrev any_self : List Draft → Bool
+abbrev any_self : List FeatureDraft → Bool
 any_self ds = any_from is_self 0 ds
 
-abbrev any_unanswered : List Draft → Bool
+abbrev any_unanswered : List FeatureDraft → Bool
 any_unanswered ds = any_from (is_unanswered ds) 0 ds
 
-abbrev any_bad_bound : List Draft → Bool
+abbrev any_bad_bound : List FeatureDraft → Bool
 any_bad_bound ds = list_any (bad_bound ds) ds
 
 pub returns-then-any_bad_bound : goal.returns-then-any_bad_bound

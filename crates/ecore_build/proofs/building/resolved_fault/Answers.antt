@@ -5,7 +5,7 @@ use Rattle.std.proofs.lemmas.List.{length-map}
 use Rattle.ecore_drafts.specs.Document.{lacks_super}
 use Rattle.ecore_drafts.specs.Drafts.{drafts}
 use Rattle.ecore_drafts.specs.Supers.{all_above, super_cycle}
-use Rattle.ecore_drafts.specs.declared.drafts.Draft.{Draft}
+use Rattle.ecore_drafts.specs.declared.drafts.FeatureDraft.{FeatureDraft}
 use Rattle.ecore_build.specs.Faults.{clash, first_true, is_missing, last_tests, unsupported}
 use Rattle.ecore_build.specs.declared.fault.MetaFault.{MetaFault}
 use Rattle.ecore_build.proofs.BuildLaws.{drafts_few, neither, past, supers_inside, supers_few}
@@ -45,7 +45,7 @@ returns c =
     (past _ _ _ _
     (neither _ _ (sym c.if-any_lacks_super.false ∙ c.any_lacks_super.ensures ∙ ap (λ k. list_any (lacks_super k) rows) c.requires.same)
     (sym c.if-any_missing.false ∙ c.any_missing.ensures
-    ∙ ap (list_any (λ (d : Draft). is_missing d.target)) (c.as_slice-else-any_lacks_super.ensures.value ∙ c.requires.resolved.drafted)))
+    ∙ ap (list_any (λ (d : FeatureDraft). is_missing d.target)) (c.as_slice-else-any_lacks_super.ensures.value ∙ c.requires.resolved.drafted)))
     (past _ _ _ _
     (sym c.if-any_cycle.false ∙ c.any_cycle.ensures
     ∙ ap (λ ls. super_cycle (map (λ ups. ups.items) ls)) c.as_slice-2.ensures.value

@@ -10,7 +10,7 @@ use Rattle.ecore_meta.specs.declared.meta.Feature.{Feature}
 use Rattle.ecore_meta.specs.declared.meta.Kind.{Kind}
 use Rattle.ecore_meta.specs.declared.meta.Kind.TheVariants.{Skip}
 use Rattle.model_documents.specs.declared.key.Key.{Key}
-use Rattle.model_documents.specs.declared.draft.Draft.{Draft}
+use Rattle.model_documents.specs.declared.draft.ElementDraft.{ElementDraft}
 use Rattle.emfjson_drafts.specs.Answers.{IsFault, AppendsPart}
 use Rattle.finite_maps.specs.Maps.{is_within}
 use Rattle.ecore_meta.specs.Typing.{is_one}
@@ -249,7 +249,7 @@ part_of-returns-in-None t c =
     let meta = c.args.meta.now in
     let ids = ids_of c.args.rows.now in
     let d = view c.args.value.now in
-    let held : ℕ → ℕ → Read (List Draft) = rows_held meta ids c.args.own d in (
+    let held : ℕ → ℕ → Read (List ElementDraft) = rows_held meta ids c.args.own d in (
       no_part,
       ap (λ (k : Key). key_part meta k d held) c.in-Of.is
           ∙ ap (λ (o : Option Feature). feature_part meta c.in-Of.f (option_map_or (λ x. x.kind) o Skip) d held) (sym c.in-None.ensures),

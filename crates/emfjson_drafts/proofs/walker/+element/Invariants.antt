@@ -1,6 +1,6 @@
 use Rattle.std.proofs.Common.{◌≡◌, drop, ◌++◌, List, []}
 use Rattle.serde_json.specs.View.{items_view, members_view}
-use Rattle.model_documents.specs.declared.draft.Draft.{Draft}
+use Rattle.model_documents.specs.declared.draft.ElementDraft.{ElementDraft}
 use Rattle.model_documents.specs.Parts.{Part, ids_of, no_part}
 use Rattle.model_documents.specs.Walk.{items_rows, members_rows}
 use Rattle.emfjson_drafts.proofs.walker.+element.Given as goal
@@ -8,7 +8,7 @@ use Rattle.emfjson_drafts.proofs.walker.+element.Given as goal
 abbrev pub invariant-items_of-loop-item : goal.invariant-items_of-loop-item
 invariant-items_of-loop-item l =
     let ids = ids_of l.fn.rows in
-    (done : List Draft) × (l.rows ≡ l.fn.rows ++ done)
+    (done : List ElementDraft) × (l.rows ≡ l.fn.rows ++ done)
     × (items_rows l.meta ids l.parent l.default [] (items_view l.items.items) ≡ items_rows l.meta ids l.parent l.default done
     (items_view (drop l.item-index l.items.items)))
 

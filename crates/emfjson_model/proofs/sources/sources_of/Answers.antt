@@ -1,7 +1,7 @@
 use Rattle.std.proofs.Common.{◌∙◌, ap, nat_eq}
 use Rattle.std.specs.List.{list_any}
 use Rattle.model_documents.specs.Finder.{numbers_at}
-use Rattle.model_documents.specs.Merged.{targets_at}
+use Rattle.model_documents.specs.Completed.{targets_at}
 use Rattle.emfjson_model.specs.Sources.{also}
 use Rattle.emfjson_model.proofs.Naming.{sources_more}
 use Rattle.emfjson_model.proofs.sources.sources_of.Goals as goal

@@ -1,5 +1,5 @@
 use Rattle.std.proofs.Common.{◌≡◌, drop}
-use Rattle.model_documents.specs.Merged.{targets_at}
+use Rattle.model_documents.specs.Completed.{targets_at}
 use Rattle.emfjson_model.proofs.sources.targets_at.Given as goal
 
 abbrev pub invariant-loop-r : goal.invariant-loop-r

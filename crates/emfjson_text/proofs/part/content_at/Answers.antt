@@ -1,7 +1,7 @@
 use Rattle.std.proofs.Common.{sym, ap, ◌∙◌, map, false}
 use Rattle.std.specs.Option.{option_map_or}
 use Rattle.ecore_meta.specs.declared.meta.Kind.TheVariants.{Skip}
-use Rattle.emfjson_io.specs.Values.{data_of}
+use Rattle.emfjson_values.specs.Values.{data_of}
 use Rattle.emfjson_text.specs.Frames.{text_if}
 use Rattle.model_texts.specs.Tree.{content, listed}
 use Rattle.emfjson_text.proofs.part.content_at.Goals as goal

@@ -1,7 +1,7 @@
 use Rattle.std.proofs.Common.{ℕ, [], sym, ap, subst}
 use Rattle.std.specs.Prelude.{IsTrue}
 use Rattle.host_port.specs.Host.{Told, GoesOn, disk_now}
-use Rattle.commit_journal.specs.Journal.{JournalState, WalkState, IsWalked, IsAtRest}
+use Rattle.commit_journal.specs.Journal.{JournalState, WalkState, IsWalked, IsJournalAtRest}
 use Rattle.file_tests.proofs.frames.opened.Goals as goal
 
 told_before : (a b : Told) → GoesOn a b → IsTrue b.tells → IsTrue a.tells
@@ -14,4 +14,4 @@ returns-in_default-clause-at_rest g c = λ told.
     let told_0 = told_before (g.H.Host.told c.args.host.now) (g.H.Host.told c.mount.new.host) c.mount.ensures.course told_1 in
     let begun = subst (λ (n : ℕ). IsWalked (disk_now (g.H.Host.told c.mount.new.host)) [] n)
     (sym (ap (λ (w : WalkState). w.next) c.in_ok-walk.ensures.ok)) (c.in_ok-walk.ensures.walked told_0) in
-    ([], subst (λ (j : JournalState). IsAtRest (disk_now (g.H.Host.told c.next_bytes.new.host)) [] j.end) (sym c.finish.ensures) (ended told_1 [] begun))
+    ([], subst (λ (j : JournalState). IsJournalAtRest (disk_now (g.H.Host.told c.next_bytes.new.host)) [] j.end) (sym c.finish.ensures) (ended told_1 [] begun))

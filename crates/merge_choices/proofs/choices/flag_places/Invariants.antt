@@ -1,6 +1,6 @@
 -- the flags of the places so far are set
 use Rattle.std.proofs.Common.{take}
-use Rattle.merge_laws.specs.Parts.{is_in}
+use Rattle.merge_laws.specs.Grouping.{is_in}
 use Rattle.merge_choices.specs.Flags.{Flagged}
 use Rattle.merge_choices.proofs.choices.flag_places.Given as goal
 

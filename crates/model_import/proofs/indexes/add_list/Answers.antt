@@ -1,5 +1,5 @@
 use Rattle.std.proofs.Common.{◌∙◌, ap, subst, List, ℕ}
-use Rattle.model_documents.specs.Merged.{targets_at}
+use Rattle.model_documents.specs.Completed.{targets_at}
 use Rattle.model_import.specs.Indexes.{Tells}
 use Rattle.model_import.proofs.FirstPlaces.{told_more}
 use Rattle.model_import.proofs.indexes.add_list.Goals as goal

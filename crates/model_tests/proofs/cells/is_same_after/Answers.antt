@@ -25,5 +25,5 @@ pub is_left_exchanged-requires-clause-possible : goal.is_left_exchanged-requires
 is_left_exchanged-requires-clause-possible c = λ x led.
     let meta = c.args.meta.now in
     both_lead meta nothing _ x _ _ _ c.args.first.now c.args.second.now c.requires.run led
-    (ap (fold meta _) (sym c.steps.ensures) ∙ c.in_ok-replay.ensures.done)
-    (ap (fold meta _) (sym c.steps-2.ensures) ∙ c.in_ok-replay-2.ensures.done)
+    (ap (fold meta _) (sym c.steps.ensures) ∙ c.in_ok-take_in_order.ensures.done)
+    (ap (fold meta _) (sym c.steps-2.ensures) ∙ c.in_ok-take_in_order-2.ensures.done)

@@ -7,8 +7,8 @@ use Rattle.finite_maps.specs.Maps.{set}
 use Rattle.finite_maps.proofs.TableLaws.{table_updates}
 use Rattle.model_state.specs.Keys.{IdBytes, RowKey, row_cmp}
 use Rattle.model_state.proofs.Orders.{row_order}
-use Rattle.step_apply.specs.Groups.{members_of, arriving}
-use Rattle.step_apply.proofs.Arrived.{arrived, into_undone}
+use Rattle.step_apply.specs.Groups.{members_of, incoming_rows}
+use Rattle.step_apply.proofs.IncomingKept.{arrived, into_undone}
 use Rattle.step_apply.proofs.Routed.{routed, out_undone, out_kept}
 use Rattle.step_apply.proofs.rows.put_row.Goals as goal
 
@@ -58,6 +58,6 @@ returns-in-Err-insert-clause-into c = λ is.
     let came = c.arrive.new.into in
     let absent : tree.get row_cmp c.args.tree.now k ≡ None = ap (tree.get row_cmp c.args.tree.now) same ∙ c.in-Err-insert.ensures.absent in
     into_undone c.args.tree.now c.insert.new.self into came c.rewrite_to-in-Err-insert.new.into k c.args.rank None is c.in-Err-insert.ensures.err absent
-    (subst (λ (z : RowKey). arriving came z.2 ≡ set (arriving into z.2) z (Some c.args.rank)) (sym same) c.in_ok-arrive.ensures.here)
-    (subst (λ (z : RowKey). (x : IdBytes) → text_eq z.2 x ≡ false → arriving came x ≡ arriving into x) (sym same) c.in_ok-arrive.ensures.there)
+    (subst (λ (z : RowKey). incoming_rows came z.2 ≡ set (incoming_rows into z.2) z (Some c.args.rank)) (sym same) c.in_ok-arrive.ensures.here)
+    (subst (λ (z : RowKey). (x : IdBytes) → text_eq z.2 x ≡ false → incoming_rows came x ≡ incoming_rows into x) (sym same) c.in_ok-arrive.ensures.there)
     c.rewrite_to-in-Err-insert.ensures.here c.rewrite_to-in-Err-insert.ensures.there

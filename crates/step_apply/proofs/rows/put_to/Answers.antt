@@ -4,7 +4,7 @@ use Rattle.finite_maps.specs.Equal.{text_eq}
 use Rattle.finite_maps.specs.Maps.{set}
 use Rattle.finite_maps.proofs.TableLaws.{table_updates}
 use Rattle.model_state.proofs.Orders.{row_order}
-use Rattle.step_apply.specs.Groups.{rows_of, arriving}
+use Rattle.step_apply.specs.Groups.{rows_of, incoming_rows}
 use Rattle.step_apply.proofs.Grouped.{not_at}
 use Rattle.step_apply.proofs.rows.put_to.Goals as goal
 
@@ -28,4 +28,4 @@ returns-in-Some-clause-there c = λ x apart.
 pub returns-clause-there : goal.returns-clause-there
 returns-clause-there c = λ x apart.
     ap rows_of (c.in_ok-insert-in-None-2.ensures.updates.2 x (not_at c.in_ok-own.own x (subst (λ z. text_eq z x ≡ false) (sym c.in_ok-own.ensures) apart)))
-    ∙ ap (λ t. arriving t x) c.get_mut.follows.holds-at-none
+    ∙ ap (λ t. incoming_rows t x) c.get_mut.follows.holds-at-none

@@ -21,7 +21,7 @@ pub returns-in-Err-next_event : goal.returns-in-Err-next_event
 returns-in-Err-next_event g c = rw c.status_of-in-Err-next_event.ensures (faulted (g.H.Host.told c.args.host.now) (g.H.Host.told c.events.host)
     (g.H.Host.told c.next_event.new.host) c.events.opening c.events.invariant c.next_event.ensures.course c.next_event.ensures.disk
     c.next_event.ensures.said c.next_event.ensures.input c.in-Err-next_event.fault (λ is. c.in-Err-next_event.ensures.cause (rw is refl))
-    c.in-Err-next_event.ensures.never c.in-Err-next_event.ensures.damaged c.in-Err-next_event.ensures.place)
+    c.in-Err-next_event.ensures.never c.in-Err-next_event.ensures.damaged c.in-Err-next_event.ensures.offset)
 
 pub returns-in-Ok-None : goal.returns-in-Ok-None
 returns-in-Ok-None g c = closed (g.H.Host.told c.args.host.now) (g.H.Host.told c.events.host) (g.H.Host.told c.next_event.new.host) c.events.opening

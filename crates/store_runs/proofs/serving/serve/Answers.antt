@@ -18,7 +18,7 @@ pub returns-clause-done : goal.returns-clause-done
 returns-clause-done g c =
     λ made holds. subst (λ (t : Task). IsDone t made (g.H.Host.told c.args.host.now) (g.H.Host.told c.serve_lines.new.host) c.serve_lines.result)
     (from_start (gated (g.G.Gate.refusal c.args.gate.now)) c.args.session.now.state
-    (g.H.Host.told c.args.host.now).left c.in-Ok.lines.place c.in-Ok.lines.pending c.in-Ok.ensures.start.1 c.in-Ok.ensures.start.0)
+    (g.H.Host.told c.args.host.now).left c.in-Ok.lines.offset c.in-Ok.lines.pending c.in-Ok.ensures.start.1 c.in-Ok.ensures.start.0)
     (c.serve_lines.ensures.done made holds)
 
 pub returns-clause-unread : goal.returns-clause-unread

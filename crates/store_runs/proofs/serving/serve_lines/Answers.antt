@@ -10,7 +10,7 @@ use Rattle.store_runs.proofs.serving.serve_lines.Goals as goal
 
 pub commands-init : goal.commands-init
 commands-init g c = serving_starts (gated (g.G.Gate.refusal c.args.gate.now))
-    (g.H.Host.told c.args.host.now) c.args.session.now.state c.args.lines.now.failed c.args.lines.now.place c.args.lines.now.pending
+    (g.H.Host.told c.args.host.now) c.args.session.now.state c.args.lines.now.failed c.args.lines.now.offset c.args.lines.now.pending
     c.args.session.now.broken c.requires.fresh c.requires.whole c.requires.open
 
 pub returns-in-Err-clause-done : goal.returns-in-Err-clause-done
@@ -19,11 +19,11 @@ returns-in-Err-clause-done g c = λ made holds.
     let entry = g.H.Host.told c.args.host.now in
     let now = g.H.Host.told c.commands.host in
     let next = g.H.Host.told c.next_item.new.host in
-    let whole = script_from takes_block c.args.lines.now.place (c.args.lines.now.pending ++ entry.left) in
-    rw c.status_of_input.ensures (fault_done rule entry now next c.args.session.now.state whole c.commands.lines.failed c.commands.lines.place
+    let whole = script_from takes_block c.args.lines.now.offset (c.args.lines.now.pending ++ entry.left) in
+    rw c.status_of_input.ensures (fault_done rule entry now next c.args.session.now.state whole c.commands.lines.failed c.commands.lines.offset
     c.commands.lines.pending c.commands.refused c.commands.session.state c.commands.session.broken c.commands.invariant c.next_item.ensures.course
     c.next_item.ensures.disk c.next_item.ensures.said made holds c.in-Err.fault
-    (script_from takes_block c.next_item.new.lines.place (c.next_item.new.lines.pending ++ next.left)) c.in-Err.ensures.item)
+    (script_from takes_block c.next_item.new.lines.offset (c.next_item.new.lines.pending ++ next.left)) c.in-Err.ensures.item)
 
 pub returns-in-Err-clause-read : goal.returns-in-Err-clause-read
 returns-in-Err-clause-read g c = λ is.
@@ -37,8 +37,8 @@ returns-then-refused-clause-done g c = λ made holds.
     let entry = g.H.Host.told c.args.host.now in
     let now = g.H.Host.told c.commands.host in
     let next = g.H.Host.told c.next_item.new.host in
-    let whole = script_from takes_block c.args.lines.now.place (c.args.lines.now.pending ++ entry.left) in
-    refused_done rule entry now next c.args.session.now.state whole c.commands.lines.failed c.commands.lines.place c.commands.lines.pending
+    let whole = script_from takes_block c.args.lines.now.offset (c.args.lines.now.pending ++ entry.left) in
+    refused_done rule entry now next c.args.session.now.state whole c.commands.lines.failed c.commands.lines.offset c.commands.lines.pending
     c.commands.refused c.commands.session.state c.commands.session.broken c.commands.invariant c.next_item.ensures.course c.next_item.ensures.disk
     c.next_item.ensures.said made holds (rw c.in-Ok-None.field-0-is at c.in-Ok-None.ensures.item)
     (rw c.in-Ok-None.field-0-is at c.in-Ok-None.ensures.end) c.if-refused.true
@@ -49,8 +49,8 @@ returns-in-Ok-None-clause-done g c = λ made holds.
     let entry = g.H.Host.told c.args.host.now in
     let now = g.H.Host.told c.commands.host in
     let next = g.H.Host.told c.next_item.new.host in
-    let whole = script_from takes_block c.args.lines.now.place (c.args.lines.now.pending ++ entry.left) in
-    accepted_done rule entry now next c.args.session.now.state whole c.commands.lines.failed c.commands.lines.place c.commands.lines.pending
+    let whole = script_from takes_block c.args.lines.now.offset (c.args.lines.now.pending ++ entry.left) in
+    accepted_done rule entry now next c.args.session.now.state whole c.commands.lines.failed c.commands.lines.offset c.commands.lines.pending
     c.commands.refused c.commands.session.state c.commands.session.broken c.commands.invariant c.next_item.ensures.course c.next_item.ensures.disk
     c.next_item.ensures.said made holds (rw c.in-Ok-None.field-0-is at c.in-Ok-None.ensures.item)
     (rw c.in-Ok-None.field-0-is at c.in-Ok-None.ensures.end) c.if-refused.false
@@ -61,10 +61,10 @@ answer_item-answered-requires-clause-open g c =
     let entry = g.H.Host.told c.args.host.now in
     let now = g.H.Host.told c.commands.host in
     let next = g.H.Host.told c.next_item.new.host in
-    let whole = script_from takes_block c.args.lines.now.place (c.args.lines.now.pending ++ entry.left) in
-    open_for rule entry now next c.args.session.now.state whole c.commands.lines.failed c.commands.lines.place c.commands.lines.pending
+    let whole = script_from takes_block c.args.lines.now.offset (c.args.lines.now.pending ++ entry.left) in
+    open_for rule entry now next c.args.session.now.state whole c.commands.lines.failed c.commands.lines.offset c.commands.lines.pending
     c.commands.refused c.commands.session.state c.commands.session.broken c.commands.invariant c.next_item.ensures.course c.next_item.ensures.disk
-    c.next_item.ensures.said c.in-Ok-Some.item c.next_item.new.lines.place c.next_item.new.lines.pending
+    c.next_item.ensures.said c.in-Ok-Some.item c.next_item.new.lines.offset c.next_item.new.lines.pending
     (rw c.in-Ok-Some.field-0-is at c.in-Ok-Some.ensures.item)
 
 pub answer_item-answered-requires-clause-read : goal.answer_item-answered-requires-clause-read
@@ -76,10 +76,10 @@ commands-preserved-then-is_skipped g c =
     let entry = g.H.Host.told c.args.host.now in
     let now = g.H.Host.told c.commands.host in
     let next = g.H.Host.told c.next_item.new.host in
-    let whole = script_from takes_block c.args.lines.now.place (c.args.lines.now.pending ++ entry.left) in
-    skipped_on rule entry now next c.args.session.now.state whole c.commands.lines.failed c.commands.lines.place c.commands.lines.pending
+    let whole = script_from takes_block c.args.lines.now.offset (c.args.lines.now.pending ++ entry.left) in
+    skipped_on rule entry now next c.args.session.now.state whole c.commands.lines.failed c.commands.lines.offset c.commands.lines.pending
     c.commands.refused c.commands.session.state c.commands.session.broken c.commands.invariant c.next_item.ensures.course c.next_item.ensures.disk
-    c.next_item.ensures.said c.in-Ok-Some.item c.next_item.new.lines.place c.next_item.new.lines.pending
+    c.next_item.ensures.said c.in-Ok-Some.item c.next_item.new.lines.offset c.next_item.new.lines.pending
     (rw c.in-Ok-Some.field-0-is at c.in-Ok-Some.ensures.item) c.next_item.new.lines.failed c.in-Ok-Some.ensures.fresh
     (gated_skipped c.commands.session.state c.in-Ok-Some.item (sym c.is_skipped.ensures ∙ c.if-is_skipped.true)
     (g.G.Gate.refusal c.args.gate.now c.commands.session.state c.in-Ok-Some.item.line))
@@ -90,10 +90,10 @@ returns-in-Err-answered-clause-done g c = λ made holds.
     let entry = g.H.Host.told c.args.host.now in
     let now = g.H.Host.told c.commands.host in
     let next = g.H.Host.told c.next_item.new.host in
-    let whole = script_from takes_block c.args.lines.now.place (c.args.lines.now.pending ++ entry.left) in
-    rw c.status_of.ensures (step_fault_done rule entry now next c.args.session.now.state whole c.commands.lines.failed c.commands.lines.place
+    let whole = script_from takes_block c.args.lines.now.offset (c.args.lines.now.pending ++ entry.left) in
+    rw c.status_of.ensures (step_fault_done rule entry now next c.args.session.now.state whole c.commands.lines.failed c.commands.lines.offset
     c.commands.lines.pending c.commands.refused c.commands.session.state c.commands.session.broken c.commands.invariant c.next_item.ensures.course
-    c.next_item.ensures.disk c.next_item.ensures.said c.in-Ok-Some.item c.next_item.new.lines.place c.next_item.new.lines.pending
+    c.next_item.ensures.disk c.next_item.ensures.said c.in-Ok-Some.item c.next_item.new.lines.offset c.next_item.new.lines.pending
     (rw c.in-Ok-Some.field-0-is at c.in-Ok-Some.ensures.item) (g.H.Host.told c.answer_item-answered.new.host)
     (rule c.commands.session.state c.in-Ok-Some.item) refl c.answer_item-answered.ensures.course c.answer_item-answered.ensures.part
     c.answer_item-answered.ensures.moments c.answer_item-answered.ensures.still c.in-Err-answered.fault c.answer_item-answered.new.session.state
@@ -108,10 +108,10 @@ commands-preserved g c =
     let entry = g.H.Host.told c.args.host.now in
     let now = g.H.Host.told c.commands.host in
     let next = g.H.Host.told c.next_item.new.host in
-    let whole = script_from takes_block c.args.lines.now.place (c.args.lines.now.pending ++ entry.left) in
-    serving_on rule entry now next c.args.session.now.state whole c.commands.lines.failed c.commands.lines.place c.commands.lines.pending
+    let whole = script_from takes_block c.args.lines.now.offset (c.args.lines.now.pending ++ entry.left) in
+    serving_on rule entry now next c.args.session.now.state whole c.commands.lines.failed c.commands.lines.offset c.commands.lines.pending
     c.commands.refused c.commands.session.state c.commands.session.broken c.commands.invariant c.next_item.ensures.course c.next_item.ensures.disk
-    c.next_item.ensures.said c.in-Ok-Some.item c.next_item.new.lines.place c.next_item.new.lines.pending
+    c.next_item.ensures.said c.in-Ok-Some.item c.next_item.new.lines.offset c.next_item.new.lines.pending
     (rw c.in-Ok-Some.field-0-is at c.in-Ok-Some.ensures.item) (g.H.Host.told c.answer_item-answered.new.host)
     (rule c.commands.session.state c.in-Ok-Some.item) refl c.answer_item-answered.ensures.course c.answer_item-answered.ensures.part
     c.answer_item-answered.ensures.moments c.answer_item-answered.ensures.still c.next_item.new.lines.failed c.answer_item-answered.new.session.state

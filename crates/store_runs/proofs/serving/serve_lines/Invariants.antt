@@ -8,8 +8,8 @@ use Rattle.store_runs.proofs.serving.serve_lines.Given as goal
 abbrev pub invariant-commands : goal.invariant-commands
 invariant-commands g l =
     Serving (gated (g.G.Gate.refusal l.fn.gate)) (g.H.Host.told l.fn.host) (g.H.Host.told l.host) l.fn.session.state
-    (script_from takes_block l.fn.lines.place (l.fn.lines.pending ++ (g.H.Host.told l.fn.host).left))
-    l.lines.failed l.lines.place l.lines.pending l.refused l.session.state l.session.broken
+    (script_from takes_block l.fn.lines.offset (l.fn.lines.pending ++ (g.H.Host.told l.fn.host).left))
+    l.lines.failed l.lines.offset l.lines.pending l.refused l.session.state l.session.broken
 
 abbrev pub decreases-commands : goal.decreases-commands
-decreases-commands g l = 2 ^ 40 - l.lines.place
+decreases-commands g l = 2 ^ 40 - l.lines.offset

@@ -3,7 +3,7 @@ use Rattle.std.proofs.Common.{◌≡◌, ◌+◌, ◌++◌, [], ◌∷◌, ℕ, 
 use Rattle.std.specs.Prelude.{IfOk, IfSome, IfNone, IsTrue, OnErr}
 use Rattle.host_port.specs.Host.{disk_now}
 use Rattle.host_port.proofs.Course.{course_on, keeps_disk_on, keeps_input_on, keeps_said_on, rose_second, told_next}
-use Rattle.commit_journal.specs.Journal.{IsAtRest, IsShort, IsStuck, IsWalked, StandsForNone, WalkState}
+use Rattle.commit_journal.specs.Journal.{IsJournalAtRest, IsShort, IsStuck, IsWalked, StandsForNone, WalkState}
 use Rattle.store_session.proofs.Again.{fault_on, none_on, nothing_still, some_on, stuck_still, walked_still}
 use Rattle.store_session.proofs.opening.next_record.Goals as goal
 
@@ -35,7 +35,7 @@ returns-in-Err-Memory g c =
     record {
       some = subst
           (λ (w : WalkState). IfOk read (λ next. IfSome next (λ form.
-          (new ≡ record { place = w.next; next = w.next + 5 + length form.items; ended = w.ended }) × IsShort form.items)))
+          (new ≡ record { offset = w.next; next = w.next + 5 + length form.items; ended = w.ended }) × IsShort form.items)))
           same two.some;
       none = subst (λ (w : WalkState). IfOk read (λ next. IfNone next (new ≡ record w { ended = true }))) same two.none;
       err = subst (λ (w : WalkState). OnErr read (new ≡ w)) same two.err;
@@ -46,8 +46,8 @@ returns-in-Err-Memory g c =
           (λ form reads told forms had. reads (told_next a b one.course told) forms (walked_still a b one.course one.disk old mid same told forms had))
           two.walked;
       ended = none_on read
-          (IsTrue b.tells → (forms : List (List ℕ)) → IsWalked (disk_now b) forms mid.next → IsAtRest (disk_now d) forms new.next)
-          (IsTrue a.tells → (forms : List (List ℕ)) → IsWalked (disk_now a) forms old.next → IsAtRest (disk_now d) forms new.next)
+          (IsTrue b.tells → (forms : List (List ℕ)) → IsWalked (disk_now b) forms mid.next → IsJournalAtRest (disk_now d) forms new.next)
+          (IsTrue a.tells → (forms : List (List ℕ)) → IsWalked (disk_now a) forms old.next → IsJournalAtRest (disk_now d) forms new.next)
           (λ rests told forms had. rests (told_next a b one.course told) forms (walked_still a b one.course one.disk old mid same told forms had))
           two.ended;
       damaged = fault_on read (λ at. (at ≡ mid.next) × (IsTrue b.tells → IsStuck (disk_now b).now at))

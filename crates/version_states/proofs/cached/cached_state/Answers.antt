@@ -2,7 +2,7 @@ use Rattle.std.proofs.Common.{◌≡◌, ℕ, List, Some, nat_eq, sym, subst}
 use Rattle.std.specs.Map.{lookup}
 use Rattle.state_cache.specs.Entries.{stands}
 use Rattle.state_cache.proofs.Standing.{all_found, all_promoted, found_first}
-use Rattle.version_states.specs.Cached.{IsVersionForm}
+use Rattle.version_states.specs.Cached.{IsVersionEncoding}
 use Rattle.version_states.proofs.Caching.{absent_same, uses_found}
 use Rattle.version_states.proofs.cached.cached_state.Goals as goal
 
@@ -10,8 +10,8 @@ pub read_state-requires-clause-form : goal.read_state-requires-clause-form
 read_state-requires-clause-form c =
     let found : lookup (nat_eq c.args.v) (stands c.args.pool.now c.args.cache.now) ≡ Some c.in-Some.bytes.items =
     sym (rw c.in-Some.is at c.in_ok-lookup.ensures.found) in
-    subst (λ (l : List ℕ). IsVersionForm c.args.meta.now c.args.history.now.history (c.args.v, l)) (sym c.deref.ensures.value)
-    (all_found (IsVersionForm c.args.meta.now c.args.history.now.history) c.args.pool.now c.args.cache.now c.args.v c.in-Some.bytes.items found
+    subst (λ (l : List ℕ). IsVersionEncoding c.args.meta.now c.args.history.now.history (c.args.v, l)) (sym c.deref.ensures.value)
+    (all_found (IsVersionEncoding c.args.meta.now c.args.history.now.history) c.args.pool.now c.args.cache.now c.args.v c.in-Some.bytes.items found
     c.requires.forms)
 
 pub returns-in_err-model-in-Some-clause-uses : goal.returns-in_err-model-in-Some-clause-uses
@@ -21,7 +21,7 @@ returns-in_err-model-in-Some-clause-uses c =
 
 pub returns-in_err-model-in-Some-clause-forms : goal.returns-in_err-model-in-Some-clause-forms
 returns-in_err-model-in-Some-clause-forms c =
-    all_promoted (IsVersionForm c.args.meta.now c.args.history.now.history)
+    all_promoted (IsVersionEncoding c.args.meta.now c.args.history.now.history)
     (nat_eq c.args.v) c.args.pool.now c.args.cache.now c.lookup.new.self c.in_ok-lookup.ensures.first c.requires.forms
 
 pub returns-in-None-clause-uses : goal.returns-in-None-clause-uses
@@ -31,7 +31,7 @@ returns-in-None-clause-uses c =
 
 pub returns-in-None-clause-forms : goal.returns-in-None-clause-forms
 returns-in-None-clause-forms c =
-    all_promoted (IsVersionForm c.args.meta.now c.args.history.now.history)
+    all_promoted (IsVersionEncoding c.args.meta.now c.args.history.now.history)
     (nat_eq c.args.v) c.args.pool.now c.args.cache.now c.lookup.new.self c.in_ok-lookup.ensures.first c.requires.forms
 
 pub returns-in-None-clause-none : goal.returns-in-None-clause-none
@@ -55,5 +55,5 @@ returns-in_ok-model-in-Some-clause-uses c =
 
 pub returns-in_ok-model-in-Some-clause-forms : goal.returns-in_ok-model-in-Some-clause-forms
 returns-in_ok-model-in-Some-clause-forms c =
-    all_promoted (IsVersionForm c.args.meta.now c.args.history.now.history)
+    all_promoted (IsVersionEncoding c.args.meta.now c.args.history.now.history)
     (nat_eq c.args.v) c.args.pool.now c.args.cache.now c.lookup.new.self c.in_ok-lookup.ensures.first c.requires.forms

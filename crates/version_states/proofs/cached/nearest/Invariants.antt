@@ -7,7 +7,7 @@ use Rattle.state_cache.specs.Entries.{stands}
 use Rattle.history_tree.specs.declared.version.Version.{Version}
 use Rattle.history_tree.specs.History.{path}
 use Rattle.history_tree.specs.Laws.{path_of_parent}
-use Rattle.version_states.specs.Cached.{AreForms, Uses}
+use Rattle.version_states.specs.Cached.{AreEncodings, Uses}
 use Rattle.version_states.proofs.cached.nearest.Given as goal
 
 abbrev pub invariant-loop-parent : goal.invariant-loop-parent
@@ -18,7 +18,7 @@ invariant-loop-parent l = record {
   same : l.cache ≡ l.fn.cache;
   missing : All (λ u. u ≢ l.v → lookup (nat_eq u) (stands l.pool l.fn.cache) ≡ None) l.back.items;
   uses : Uses l.pool l.pool l.fn.cache l.cache;
-  forms : AreForms (Some l.meta) l.history.history (stands l.pool l.cache);
+  forms : AreEncodings (Some l.meta) l.history.history (stands l.pool l.cache);
 }
 
 abbrev pub decreases-loop-parent : goal.decreases-loop-parent

@@ -5,7 +5,7 @@ use Rattle.model_state.specs.declared.step.StepFault.TheVariants.{Memory}
 use Rattle.model_state.specs.declared.operation.Operation.{Operation}
 use Rattle.model_state.specs.Packages.{fold_package}
 use Rattle.history_tree.specs.declared.version.Version.{Version}
-use Rattle.history_tree.specs.States.{package_at}
+use Rattle.history_tree.specs.States.{package_of_version}
 use Rattle.version_states.proofs.Folding.{cannot_follow, version_on}
 use Rattle.version_states.proofs.states.follow_versions.Goals as goal
 
@@ -14,7 +14,7 @@ returns-in_err-follow-clause-cannot c =
     let meta = c.args.meta.now in
     let h = c.args.history.now.history in
     let us = c.args.versions.now in
-    let at : package_at h.versions (slice_index_or us c.loop-u.u-index 0) ≡ c.as_slice.result.now =
+    let at : package_of_version h.versions (slice_index_or us c.loop-u.u-index 0) ≡ c.as_slice.result.now =
     ap (λ (o : Option Version). option_map_or (λ v. v.«package») o []) c.version.ensures.version ∙ sym c.as_slice.ensures in
     cannot_follow meta c.args.model.now c.loop-u.model h.versions us c.loop-u.u-index 0 c.in_err-follow.field-0.0 c.from_residual.result
     c.from_residual.ensures.0 c.from_residual.ensures.1 c.loop-u-test.true c.loop-u.invariant.same
@@ -25,7 +25,7 @@ loop-u-preserved c =
     let meta = c.args.meta.now in
     let h = c.args.history.now.history in
     let us = c.args.versions.now in
-    let at : package_at h.versions (slice_index_or us c.loop-u.u-index 0) ≡ c.as_slice.result.now =
+    let at : package_of_version h.versions (slice_index_or us c.loop-u.u-index 0) ≡ c.as_slice.result.now =
     ap (λ (o : Option Version). option_map_or (λ v. v.«package») o []) c.version.ensures.version ∙ sym c.as_slice.ensures in
     record {
       same = c.loop-u.invariant.same ∙ version_on meta c.loop-u.model c.follow.new.model h.versions us c.loop-u.u-index 0 c.loop-u-test.true

@@ -1,7 +1,7 @@
 -- A record is appended, or a write fails on the way: what the disk holds at each moment, before its gate is written and after.
 use Rattle.std.proofs.Common.{◌≡◌, ℕ, ◌+◌, ◌++◌, [], ◌∷◌, false, length, sym, ap, subst, arith}
 use Rattle.host_port.specs.Host.{disk_now}
-use Rattle.commit_journal.specs.Journal.{JournalState, IsAtRest}
+use Rattle.commit_journal.specs.Journal.{JournalState, IsJournalAtRest}
 use Rattle.page_pool.specs.Paged.{PagedState, content}
 use Rattle.commit_journal.proofs.Append.{fits_held, bytes_of, one_any_moment, one_front, one_gate_last, two_any_moment, two_front, two_gate_last, added}
 use Rattle.commit_journal.proofs.Ends.{length-after_gate}
@@ -122,7 +122,7 @@ returns-clause-added g c = λ told form held forms at_rest.
     let fits = fits_held c.args.pool.now c.args.prepared c.args.self.now.end c.requires.ready form held in
     let new_end : c.self.inside.end + c.len-length.result ≡ c.args.self.now.end + 5 + length form = omega
     (arith, ap end_of c.self.view_is, ap size_of c.prepared.view_is, length-after_gate form, c.len-length.ensures, held.size) in
-    subst (λ (n : ℕ). IsAtRest (disk_now new) (forms ++ form ∷ []) n) (sym new_end)
+    subst (λ (n : ℕ). IsJournalAtRest (disk_now new) (forms ++ form ∷ []) n) (sym new_end)
     (added old behind c.args.self.now.end c.self.inside.end form (content c.args.pool.now c.prepared.inside.paged) (ap end_of c.self.view_is) spelt
     fits c.write_pages-done.ensures.during new c.write_pages-done.ensures.course c.write_durably.ensures.course c.in_ok-done.ensures.done
     c.write_durably.ensures.during c.in_ok-write_durably.ensures.done told forms at_rest)

@@ -3,7 +3,7 @@ use Rattle.std.proofs.Common.{◌≡◌, ℕ, ◌+◌, List, [], ◌∷◌, ◌+
 use Rattle.std.specs.Prelude.{IsTrue}
 use Rattle.host_port.specs.Host.{Disk, disk_now}
 use Rattle.commit_journal.specs.Journal.{IsWalked, IsMounted, IsStuck, ReadsTo, StandsForNone}
-use Rattle.commit_journal.specs.TornWrites.{IsSettled}
+use Rattle.commit_journal.specs.TornWrites.{IsStable}
 use Rattle.host_port.proofs.Course.{told_next, kept_now}
 use Rattle.commit_journal.proofs.Unique.{stuck_for_none}
 use Rattle.commit_journal.proofs.Walking.{one_record}
@@ -68,7 +68,7 @@ returns-in_ok-read_at-in-Open-clause-walked g c = λ told forms walked.
       at_gate.whole,
     )) in
     record {
-      settled = subst IsSettled (sym same_d) walked.settled;
+      settled = subst IsStable (sym same_d) walked.settled;
       mounted = subst (λ (s : Disk). IsMounted s.now) (sym same_d) walked.mounted;
       reads = subst (λ (s : Disk).
           ReadsTo s.now (forms ++ take c.in_ok-form-in-Open.form.len

@@ -1,6 +1,6 @@
 use Rattle.std.proofs.Common.{◌∙◌, [], ap, sym, cond, length}
 use Rattle.std.specs.Prelude.{None, Some}
-use Rattle.model_documents.specs.declared.draft.Draft.{Draft}
+use Rattle.model_documents.specs.declared.draft.ElementDraft.{ElementDraft}
 use Rattle.model_documents.specs.Finder.{first_of}
 use Rattle.model_documents.specs.Places.{has_id, named}
 use Rattle.model_documents.proofs.Finding.{named_last}
@@ -15,7 +15,7 @@ invariant_of-self-in-Ok c = λ t.
     let last = c.len-own.ensures ∙ ap length (sym c.self.view_is) in
     c.in-Ok.ensures.found t
     ∙ ap (λ o. first_of o (cond (has_id t c.index.result.now) (Some c.len-own.result) None)) (c.self.invariant t)
-    ∙ ap (λ (r : Draft). first_of (named rows t) (cond (has_id t r) (Some c.len-own.result) None))
+    ∙ ap (λ (r : ElementDraft). first_of (named rows t) (cond (has_id t r) (Some c.len-own.result) None))
     (c.index.ensures ∙ get_between rows [] row c.index.result.now _ c.len-own.result is (sym last))
     ∙ ap (λ n. first_of (named rows t) (cond (has_id t row) (Some n) None)) last
     ∙ sym (named_last rows row t)

@@ -1,6 +1,6 @@
 use Rattle.std.proofs.Common.{◌∙◌, [], ap}
 use Rattle.std.specs.Prelude.{unwrap_or}
-use Rattle.model_documents.specs.Merged.{naming}
+use Rattle.model_documents.specs.Completed.{naming}
 use Rattle.emfjson_model.proofs.sources.Sources.naming.Goals as goal
 
 pub returns-in-None : goal.returns-in-None

@@ -3,7 +3,7 @@ use Rattle.history_tree.specs.declared.version.Branch.{Branch}
 use Rattle.history_tree.specs.Heads.{AreHeads}
 use Rattle.history_tree.specs.History.{History}
 use Rattle.history_tree.specs.Index.{Knows}
-use Rattle.history_tree.specs.Room.{Held, most_numbered}
+use Rattle.history_tree.specs.Room.{HistoryState, most_numbered}
 use Rattle.history_tree.specs.Whole.{IsWhole}
 use Rattle.history_tree.proofs.HeadsBeside.{heads_branch}
 use Rattle.history_tree.proofs.Named.{knows_longer}
@@ -17,8 +17,8 @@ invariant_of-self c =
     let heads : List ℕ = c.self.inside.heads.items in
     let h : History = record { versions = c.self.inside.versions.items; branches = c.self.inside.branches.items; tags = c.self.inside.tags.items } in
     let seen = sym c.self.view_is in
-    let count : length h.branches < most_numbered = subst (λ (s : Held). length s.history.branches < most_numbered) seen c.requires.count in
-    let within : start < length h.versions = subst (λ (s : Held). start < length s.history.versions) seen c.requires.start in
+    let count : length h.branches < most_numbered = subst (λ (s : HistoryState). length s.history.branches < most_numbered) seen c.requires.count in
+    let within : start < length h.versions = subst (λ (s : HistoryState). start < length s.history.versions) seen c.requires.start in
     let added = sym c.push_reserved-2.ensures.items in (
       subst (λ (bs : List Branch). IsWhole (record { versions = c.self.inside.versions.items; branches = bs; tags = c.self.inside.tags.items })) added
           (whole_branch h c.self.invariant.0 name start within),

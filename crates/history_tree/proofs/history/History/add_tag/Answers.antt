@@ -2,7 +2,7 @@ use Rattle.std.proofs.Common.{ℕ, ◌<◌, arith, sym, subst, List, length}
 use Rattle.history_tree.specs.declared.version.Tag.{Tag}
 use Rattle.history_tree.specs.History.{History}
 use Rattle.history_tree.specs.Index.{Knows}
-use Rattle.history_tree.specs.Room.{Held, most_numbered}
+use Rattle.history_tree.specs.Room.{HistoryState, most_numbered}
 use Rattle.history_tree.specs.Whole.{IsWhole}
 use Rattle.history_tree.proofs.Named.{knows_longer}
 use Rattle.history_tree.proofs.Steady.{whole_tag}
@@ -14,8 +14,8 @@ invariant_of-self c =
     let version : ℕ = c.args.version in
     let h : History = record { versions = c.self.inside.versions.items; branches = c.self.inside.branches.items; tags = c.self.inside.tags.items } in
     let seen = sym c.self.view_is in
-    let count : length h.tags < most_numbered = subst (λ (s : Held). length s.history.tags < most_numbered) seen c.requires.count in
-    let within : version < length h.versions = subst (λ (s : Held). version < length s.history.versions) seen c.requires.version in
+    let count : length h.tags < most_numbered = subst (λ (s : HistoryState). length s.history.tags < most_numbered) seen c.requires.count in
+    let within : version < length h.versions = subst (λ (s : HistoryState). version < length s.history.versions) seen c.requires.version in
     let added = sym c.push_reserved.ensures.items in (
       subst (λ (ts : List Tag). IsWhole (record { versions = c.self.inside.versions.items; branches = c.self.inside.branches.items; tags = ts }))
           added (whole_tag h c.self.invariant.0 name version within),

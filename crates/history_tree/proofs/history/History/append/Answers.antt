@@ -3,7 +3,7 @@ use Rattle.std.specs.Prelude.{All, slice_set}
 use Rattle.history_tree.specs.declared.version.Version.{Version}
 use Rattle.history_tree.specs.Heads.{AreHeads}
 use Rattle.history_tree.specs.History.{History, head, with_version}
-use Rattle.history_tree.specs.Room.{Held, most_numbered}
+use Rattle.history_tree.specs.Room.{HistoryState, most_numbered}
 use Rattle.history_tree.specs.Whole.{IsWhole}
 use Rattle.history_tree.proofs.Growing.{whole_more}
 use Rattle.history_tree.proofs.HeadsBeside.{heads_more}
@@ -14,15 +14,15 @@ invariant_of-self c =
     let v : Version = c.args.version in
     let h : History = record { versions = c.self.inside.versions.items; branches = c.self.inside.branches.items; tags = c.self.inside.tags.items } in
     let seen = sym c.self.view_is in
-    let count : length h.versions < most_numbered = subst (λ (s : Held). length s.history.versions < most_numbered) seen c.requires.count in
+    let count : length h.versions < most_numbered = subst (λ (s : HistoryState). length s.history.versions < most_numbered) seen c.requires.count in
     let heads : List ℕ = c.self.inside.heads.items in
-    let on : v.branch < length h.branches = subst (λ (s : Held). v.branch < length s.history.branches) seen c.requires.branch in
+    let on : v.branch < length h.branches = subst (λ (s : HistoryState). v.branch < length s.history.branches) seen c.requires.branch in
     let number : c.len-number.result ≡ length h.versions = omega (arith, c.len-number.ensures, c.self.inside.versions.ok.0) in
     let added = sym c.push_reserved.ensures.items in (
       subst (λ (vs : List Version). IsWhole (record { versions = vs; branches = c.self.inside.branches.items; tags = c.self.inside.tags.items })) added
           (whole_more h v c.self.invariant.0 on
-          (subst (λ (s : Held). v.parent ≡ Some (head s.history v.branch)) seen c.requires.parent)
-          (subst (λ (s : Held). All (λ u. u < length s.history.versions) v.merged) seen c.requires.merged)
+          (subst (λ (s : HistoryState). v.parent ≡ Some (head s.history v.branch)) seen c.requires.parent)
+          (subst (λ (s : HistoryState). All (λ u. u < length s.history.versions) v.merged) seen c.requires.merged)
           c.requires.signed),
       omega (arith, count, c.push_reserved.ensures.len, c.self.inside.versions.ok.0),
       c.self.invariant.2,

@@ -47,7 +47,7 @@ returns-in-Ok-clause-part c = λ told t low high.
     let calls = c.args.self.now.calls.items in
     let start = at_start c.args.self.now.first.items in
     let noted = v.2 ∙ ap (λ l. l ++ Write c.args.at v.0 ∷ []) c.if-not-begins.ensures.going_on.0 in
-    let fits = c.requires.place told in
+    let fits = c.requires.offset told in
     let long = ap length v.1 in
     ⊎_elim
     (λ e. not_yet _ _ _ e)

@@ -1,5 +1,5 @@
 use Rattle.std.proofs.Common.{◌∙◌, sym, ap}
-use Rattle.model_documents.specs.Merged.{targets_at}
+use Rattle.model_documents.specs.Completed.{targets_at}
 use Rattle.import_laws.specs.Links.{index_in, refs_at}
 use Rattle.model_import.proofs.indexes.Indexes.index.Goals as goal
 

@@ -1,6 +1,6 @@
 use Rattle.std.proofs.Common.{◌≡◌, List, None, Some, subst}
 use Rattle.model_state.specs.declared.operation.Operation.{Operation}
-use Rattle.repo_state.specs.declared.fault.ReplayFault.TheVariants.{NotPlayable}
+use Rattle.repo_state.specs.declared.fault.PlayFault.TheVariants.{NotPlayable}
 use Rattle.model_state.specs.Packages.{fold_package}
 use Rattle.repo_state.proofs.Effects.{begun_is}
 use Rattle.repo_state.proofs.Taking.{model_good, taken_cannot, taken_could, taken_lead, taker}

@@ -3,7 +3,7 @@ use Rattle.std.proofs.Common.{◌≡◌, ◌∙◌, true, is_some, sym, subst}
 use Rattle.std.specs.Prelude.{IfOk}
 use Rattle.plain_repository.specs.State.{State, workspace_of}
 use Rattle.version_states.proofs.Caching.{uses_on}
-use Rattle.repo_state.specs.Cached.{HasForms}
+use Rattle.repo_state.specs.Cached.{HasEncodings}
 use Rattle.repo_state.specs.Working.{IsWorkingModel}
 use Rattle.repo_state.proofs.Caching.{may_again}
 use Rattle.repo_state.proofs.repo.Repo.take_model.Goals as goal
@@ -18,7 +18,7 @@ model_at-requires-2-clause-usable c =
 
 pub model_at-requires-2-clause-forms : goal.model_at-requires-2-clause-forms
 model_at-requires-2-clause-forms c =
-    subst (λ (s : State). HasForms s c.model_at.new.pool c.model_at.new.cache) (sym (c.let_others_go.ensures.same ∙ c.model_at.ensures.same))
+    subst (λ (s : State). HasEncodings s c.model_at.new.pool c.model_at.new.cache) (sym (c.let_others_go.ensures.same ∙ c.model_at.ensures.same))
     c.model_at.ensures.forms
 
 pub returns-clause-model : goal.returns-clause-model
@@ -33,5 +33,5 @@ returns-clause-uses c =
 
 pub returns-clause-forms : goal.returns-clause-forms
 returns-clause-forms c =
-    subst (λ (s : State). HasForms s c.model_at-2.new.pool c.model_at-2.new.cache) (c.let_others_go.ensures.same ∙ c.model_at.ensures.same)
+    subst (λ (s : State). HasEncodings s c.model_at-2.new.pool c.model_at-2.new.cache) (c.let_others_go.ensures.same ∙ c.model_at.ensures.same)
     c.model_at-2.ensures.forms

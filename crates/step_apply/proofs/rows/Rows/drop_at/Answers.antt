@@ -6,7 +6,7 @@ use Rattle.finite_maps.proofs.TableLaws.{table_updates}
 use Rattle.finite_maps.proofs.EqualLaws.{text_equality}
 use Rattle.model_state.specs.Keys.{row_cmp}
 use Rattle.model_state.proofs.Orders.{row_order}
-use Rattle.step_apply.proofs.Arrived.{arrived}
+use Rattle.step_apply.proofs.IncomingKept.{arrived}
 use Rattle.step_apply.proofs.Routed.{routed}
 use Rattle.step_apply.proofs.rows.Rows.drop_at.Goals as goal
 

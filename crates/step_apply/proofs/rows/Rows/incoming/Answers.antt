@@ -6,7 +6,7 @@ use Rattle.model_state.specs.Keys.{row_cmp}
 use Rattle.model_state.specs.Listing.{row_incoming, incoming}
 use Rattle.model_state.proofs.Orders.{row_order}
 use Rattle.step_apply.specs.Groups.{rows_of}
-use Rattle.step_apply.proofs.Arrived.{incoming_are}
+use Rattle.step_apply.proofs.IncomingKept.{incoming_are}
 use Rattle.step_apply.proofs.Grouped.{no_entries}
 use Rattle.step_apply.proofs.rows.Rows.incoming.Goals as goal
 

@@ -5,7 +5,7 @@ use Rattle.std.specs.Map.{lookup}
 use Rattle.std.specs.BTreeMap.{is_at}
 use Rattle.finite_maps.specs.Equal.{text_eq}
 use Rattle.model_state.specs.Keys.{id_cmp, row_cmp}
-use Rattle.step_apply.specs.Groups.{fan_of, rows_of, IsOut, IsInto}
+use Rattle.step_apply.specs.Groups.{fan_of, rows_of, IsOut, HoldIncoming}
 use Rattle.step_apply.proofs.rows.Rows.new.Goals as goal
 
 pub invariant_of-result : goal.invariant_of-result
@@ -13,7 +13,7 @@ invariant_of-result c =
     let first : IsOut c.new.result c.new-2.result = λ a f b.
     ap (λ es. get (fan_of (lookup (is_at (id_cmp a)) es) f) b) c.new-2.ensures.empty ∙ get-empty id_cmp b
     ∙ ap (λ es. lookup (is_at (row_cmp (a, f, b))) es) (sym c.new.ensures.empty) in
-    let second : IsInto c.new.result c.new-3.result = λ b k.
+    let second : HoldIncoming c.new.result c.new-3.result = λ b k.
     ap (λ es. get (rows_of (lookup (is_at (id_cmp b)) es)) k) c.new-3.ensures.empty ∙ get-empty row_cmp k
     ∙ sym (none (text_eq b k.2))
     ∙ ap (λ es. cond (text_eq b k.2) (lookup (is_at (row_cmp k)) es) None) (sym c.new.ensures.empty) in

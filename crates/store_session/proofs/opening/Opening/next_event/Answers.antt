@@ -9,8 +9,8 @@ use Rattle.op_form.specs.Events.{event_encoding}
 use Rattle.plain_repository.specs.State.{State}
 use Rattle.plain_repository.specs.Events.{playable}
 use Rattle.plain_repository.specs.Store.{IsDamaged, StandsForNoEvents}
-use Rattle.repo_state.specs.Cached.{HasForms}
-use Rattle.store_session.specs.Session.{IsReplayed}
+use Rattle.repo_state.specs.Cached.{HasEncodings}
+use Rattle.store_session.specs.Session.{IsPlayedUpTo}
 use Rattle.store_session.specs.State.{OpeningState}
 use Rattle.store_session.proofs.Reading.{at_closed_gate, damage_of, end_on, event_is_damage, played_on, plays_event, spells, stuck_is_damage}
 use Rattle.store_session.proofs.opening.Opening.next_event.Goals as goal
@@ -22,11 +22,11 @@ abbrev end_of : State → ℕ
 end_of s = s.end
 
 abbrev place_of : WalkState → ℕ
-place_of w = w.place
+place_of w = w.offset
 
 -- some events, played one after the other, give the state at that place of the disk's file
 abbrev HasReplayed : Disk → OpeningState → Type 0
-HasReplayed disk o = (made : List Event) × IsReplayed disk o.state o.next made
+HasReplayed disk o = (made : List Event) × IsPlayedUpTo disk o.state o.next made
 
 pub next_record-requires : goal.next_record-requires
 next_record-requires g c = record {
@@ -43,7 +43,7 @@ play_record-requires-clause-room g c =
 
 pub play_record-requires-clause-forms : goal.play_record-requires-clause-forms
 play_record-requires-clause-forms g c =
-    subst (λ (s : State). HasForms s c.self.inside.pool c.self.inside.cache) (sym c.next_record.ensures.same) c.self.invariant.1
+    subst (λ (s : State). HasEncodings s c.self.inside.pool c.self.inside.cache) (sym c.next_record.ensures.same) c.self.invariant.1
 
 pub returns-in-Err-clause-damaged : goal.returns-in-Err-clause-damaged
 returns-in-Err-clause-damaged g c = rw c.session_fault.ensures (damage_of c.in-Err.fault
@@ -57,8 +57,8 @@ returns-in-Err-clause-damaged g c = rw c.session_fault.ensures (damage_of c.in-E
     (subst (λ (n : ℕ). n < 2 ^ 40) (ap next_of c.in-Err.ensures.err) c.next_record.ensures.low) stuck.0 (stuck.1 told) (none told))
     c.in-Err.ensures.damaged c.in-Err.ensures.nothing)
 
-pub returns-in-Err-clause-place : goal.returns-in-Err-clause-place
-returns-in-Err-clause-place g c = rw c.session_fault.ensures (damage_of c.in-Err.fault
+pub returns-in-Err-clause-offset : goal.returns-in-Err-clause-offset
+returns-in-Err-clause-offset g c = rw c.session_fault.ensures (damage_of c.in-Err.fault
     (λ (at : ℕ). (at ≡ c.self.inside.walk.next) × (IsTrue (g.H.Host.told c.args.host.now).tells → IsStuck (disk_now (g.H.Host.told c.args.host.now)).now at))
     (λ (at : ℕ). IsTrue (g.H.Host.told c.args.host.now).tells → StandsForNone (disk_now (g.H.Host.told c.args.host.now)).now)
     (λ (at : ℕ). at ≡ c.args.self.now.next) (λ at stuck none. stuck.0 ∙ ap (λ (o : OpeningState). o.next) c.self.view_is)
@@ -72,7 +72,7 @@ returns-in-Ok-None-clause-store g c =
     rw (sym c.self.view_is)
     (λ told made had. at_closed_gate (disk_now (g.H.Host.told c.args.host.now))
     (disk_now (g.H.Host.told c.next_record.new.host)) c.next_record.new.repo c.self.inside.walk.next c.next_record.new.walk.next made
-    (subst (λ (s : State). IsReplayed (disk_now (g.H.Host.told c.args.host.now)) s c.self.inside.walk.next made) (sym c.next_record.ensures.same) had)
+    (subst (λ (s : State). IsPlayedUpTo (disk_now (g.H.Host.told c.args.host.now)) s c.self.inside.walk.next made) (sym c.next_record.ensures.same) had)
     (ap end_of c.next_record.ensures.same ∙ at ∙ sym (ap next_of none)) (closed told (map event_encoding made)))
 
 pub returns-in-Ok-clause-played : goal.returns-in-Ok-clause-played
@@ -98,19 +98,19 @@ returns-in-Err-NotPlayable-clause-damaged g c = λ told.
     let had = subst (HasReplayed (disk_now (g.H.Host.told c.args.host.now))) (sym c.self.view_is) (c.requires.replayed told) in
     let some = rw c.in-Ok-Some.field-0-is at c.in-Ok-Some.ensures.some in
     let walked = rw c.in-Ok-Some.field-0-is at c.in-Ok-Some.ensures.walked in
-    event_is_damage (disk_now (g.H.Host.told c.args.host.now)) c.self.inside.repo c.self.inside.walk.next c.next_record.new.walk.next c.place.result
+    event_is_damage (disk_now (g.H.Host.told c.args.host.now)) c.self.inside.repo c.self.inside.walk.next c.next_record.new.walk.next c.offset.result
     c.in-Ok-Some.bytes.items had.0 had.1 (omega (arith, ap next_of some.0, c.next_record.ensures.low))
-    (c.place.ensures ∙ ap place_of some.0) (ap next_of some.0)
+    (c.offset.ensures ∙ ap place_of some.0) (ap next_of some.0)
     (λ event can is. (rw c.in-Err-NotPlayable.field-0-is at c.in-Err-NotPlayable.ensures.refused) refl event
     (subst (λ (s : State). IsTrue (playable s event)) (sym c.next_record.ensures.same) can) (c.deref.ensures.value ∙ is))
     (subst (λ d. ReadsTo d.now (map event_encoding had.0 ++ c.in-Ok-Some.bytes.items ∷ []) c.next_record.new.walk.next)
     (kept_now (g.H.Host.told c.args.host.now) (g.H.Host.told c.next_record.new.host) c.next_record.ensures.course c.next_record.ensures.disk told)
     (walked told (map event_encoding had.0) had.1.walked).reads)
 
-pub returns-in-Err-NotPlayable-clause-place : goal.returns-in-Err-NotPlayable-clause-place
-returns-in-Err-NotPlayable-clause-place g c =
+pub returns-in-Err-NotPlayable-clause-offset : goal.returns-in-Err-NotPlayable-clause-offset
+returns-in-Err-NotPlayable-clause-offset g c =
     let some = rw c.in-Ok-Some.field-0-is at c.in-Ok-Some.ensures.some in
-    c.place.ensures ∙ ap place_of some.0 ∙ ap (λ (o : OpeningState). o.next) c.self.view_is
+    c.offset.ensures ∙ ap place_of some.0 ∙ ap (λ (o : OpeningState). o.next) c.self.view_is
 
 pub invariant_of-result : goal.invariant_of-result
 invariant_of-result g c =

@@ -9,8 +9,8 @@ returns-then-branch-clause-step c = λ takes line left.
     let adds : AddsRun (read_so_far c.args.self.now) (take c.run_len-run.result c.args.unread.now.pending) (read_so_far c.add_run.new.self) =
     rw (sym c.as_slice-bytes.ensures) (c.in_ok-add_run.ensures.added c.if-branch.true) in
     let short : c.run_len-run.result ≤ length c.args.unread.now.pending = rw (sym c.as_slice-bytes.ensures) c.run_len-run.ensures.within.0 in
-    run_goes takes line c.args.start c.args.unread.now.place c.go_past.new.self.place c.run_len-run.result (read_so_far c.args.self.now)
+    run_goes takes line c.args.start c.args.unread.now.offset c.go_past.new.self.offset c.run_len-run.result (read_so_far c.args.self.now)
     (read_so_far c.add_run.new.self)
     c.args.unread.now.pending c.go_past.new.self.pending left short plain adds
     (grind (arith, c.run_len-run.ensures.within, c.requires)) c.args.unread.now.within
-    c.go_past.ensures.pending c.go_past.ensures.place
+    c.go_past.ensures.pending c.go_past.ensures.offset

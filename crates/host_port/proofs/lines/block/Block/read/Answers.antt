@@ -13,7 +13,7 @@ went_well P (Err e) is p = absurd cc
 
 pub returns-in-Some-clause-block : goal.returns-in-Some-clause-block
 returns-in-Some-clause-block g c = λ told takes line. read_bad line (string_bytes c.line.new.self.text) c.line.new.self.not_text c.in-Some.at
-    (script_from takes c.line.new.unread.place (c.line.new.unread.pending ++ (g.H.Host.told c.line.new.host).left)) _ c.in-Some.is
+    (script_from takes c.line.new.unread.offset (c.line.new.unread.pending ++ (g.H.Host.told c.line.new.host).left)) _ c.in-Some.is
     (c.lines.invariant.goes told takes line
     ∙ (went_well _ c.add_plain.result (sym c.is_err.ensures.value ∙ c.if-is_err.false) c.add_plain.ensures.step takes line
     (g.H.Host.told c.lines.host).left
@@ -22,7 +22,7 @@ returns-in-Some-clause-block g c = λ told takes line. read_bad line (string_byt
 
 pub returns-in-None-clause-block : goal.returns-in-None-clause-block
 returns-in-None-clause-block g c = λ told takes line. read_whole line (string_bytes c.line.new.self.text) c.line.new.self.not_text
-    (script_from takes c.line.new.unread.place (c.line.new.unread.pending ++ (g.H.Host.told c.line.new.host).left)) _ c.in-None.is
+    (script_from takes c.line.new.unread.offset (c.line.new.unread.pending ++ (g.H.Host.told c.line.new.host).left)) _ c.in-None.is
     (c.lines.invariant.goes told takes line
     ∙ (went_well _ c.add_plain.result (sym c.is_err.ensures.value ∙ c.if-is_err.false) c.add_plain.ensures.step takes line
     (g.H.Host.told c.lines.host).left

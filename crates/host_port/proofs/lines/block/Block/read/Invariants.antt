@@ -9,12 +9,12 @@ use Rattle.host_port.proofs.lines.block.Block.read.Given as goal
 
 abbrev pub invariant-lines : goal.invariant-lines
 invariant-lines g l = record {
-  started : l.start ≤ l.unread.place;
-  near : l.unread.place ≤ l.start + block_limit;
-  short : length (string_bytes l.self.text) + l.start ≤ l.unread.place;
+  started : l.start ≤ l.unread.offset;
+  near : l.unread.offset ≤ l.start + block_limit;
+  short : length (string_bytes l.self.text) + l.start ≤ l.unread.offset;
   goes : IsTrue (g.H.Host.told l.fn.host).tells → (takes : List ℕ → Bool) (line : List ℕ) →
       cut_block takes line l.start l.start (Ok []) (slice_split is_lf (l.fn.unread.pending ++ (g.H.Host.told l.fn.host).left))
-      ≡ cut_block takes line l.start l.unread.place (read_so_far l.self) (slice_split is_lf (l.unread.pending ++ (g.H.Host.told l.host).left));
+      ≡ cut_block takes line l.start l.unread.offset (read_so_far l.self) (slice_split is_lf (l.unread.pending ++ (g.H.Host.told l.host).left));
   course : GoesOn (g.H.Host.told l.fn.host) (g.H.Host.told l.host);
   disk : KeepsDisk (g.H.Host.told l.fn.host) (g.H.Host.told l.host);
   said : KeepsSaid (g.H.Host.told l.fn.host) (g.H.Host.told l.host);
@@ -22,4 +22,4 @@ invariant-lines g l = record {
 }
 
 abbrev pub decreases-lines : goal.decreases-lines
-decreases-lines g l = 2 ^ 40 - l.unread.place
+decreases-lines g l = 2 ^ 40 - l.unread.offset

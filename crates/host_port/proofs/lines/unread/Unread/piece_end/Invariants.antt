@@ -7,7 +7,7 @@ abbrev pub invariant-pieces : goal.invariant-pieces
 invariant-pieces g l = record {
   clear : l.clear ≤ length l.self.pending;
   none : (k : ℕ) → k < l.clear → get_or l.self.pending k 0 ≡ 10 → ⊥;
-  place : l.self.place ≡ l.initial.self.place;
+  offset : l.self.offset ≡ l.initial.self.offset;
   unread : IsTrue (g.H.Host.told l.initial.host).tells
       → l.self.pending ++ (g.H.Host.told l.host).left ≡ l.initial.self.pending ++ (g.H.Host.told l.initial.host).left;
   course : GoesOn (g.H.Host.told l.initial.host) (g.H.Host.told l.host);
@@ -17,4 +17,4 @@ invariant-pieces g l = record {
 }
 
 abbrev pub decreases-pieces : goal.decreases-pieces
-decreases-pieces g l = 2 ^ 40 - (l.self.place + length l.self.pending)
+decreases-pieces g l = 2 ^ 40 - (l.self.offset + length l.self.pending)

@@ -1,6 +1,0 @@
-use Rattle.emfjson_io.proofs.Again.{written_read}
-use Rattle.emfjson_io.proofs.Fits.{read_fits}
-use Rattle.emfjson_io.proofs.laws.law_of_values.Goals as goal
-
-pub returns : goal.returns
-returns c = record { fit = read_fits; again = written_read }

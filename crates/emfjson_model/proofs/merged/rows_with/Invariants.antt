@@ -1,7 +1,0 @@
-use Rattle.std.proofs.Common.{◌≡◌, [], drop}
-use Rattle.model_documents.specs.Merged.{next_row}
-use Rattle.model_documents.specs.Reads.{collected}
-use Rattle.emfjson_model.proofs.merged.rows_with.Given as goal
-
-abbrev pub invariant-loop-draft : goal.invariant-loop-draft
-invariant-loop-draft l = collected (next_row l.meta l.given) [] l.drafts ≡ collected (next_row l.meta l.given) l.rows (drop l.draft-index l.drafts)

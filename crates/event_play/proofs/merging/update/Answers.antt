@@ -1,0 +1,14 @@
+use Rattle.op_form.specs.declared.event.Event.TheVariants.{Update}
+use Rattle.event_play.proofs.Putting.{put_orderly, update_closed, update_there}
+use Rattle.event_play.proofs.merging.update.Goals as goal
+
+pub update-requires : goal.update-requires
+update-requires c =
+    let s = c.args.repo.now in
+    record {
+      there = update_there s s.meta c.args.ws c.args.letters.now c.in_ok-updated.ensures.could;
+      closed = update_closed s s.meta c.args.ws c.args.letters.now c.in_ok-updated.ensures.could;
+      orderly = put_orderly s _
+          (Update c.args.ws c.args.letters.now) c.in_ok-updated.ensures.could c.requires.spelled c.recall_order.ensures c.in_ok-updated.ensures.leads;
+      theirs = c.in_ok-updated.ensures.theirs;
+    }
