@@ -6,10 +6,10 @@ ghost use Rattle.model_documents.specs.Completed.{attr_at, attrs_by, completed, 
 
 use crate::sources::Sources;
 use crate::targets::Targets;
-use ecore_meta::{Metamodel, Value};
+use ecore_meta::Metamodel;
 use emfjson_drafts::is_within;
 use model_documents::{DocAttr, DocRefs, DocRow, ElementDraft, ModelFault};
-use model_state::{Id, opposite_of, row_upper};
+use model_state::{Id, copied_values, opposite_of, row_upper};
 use std::alloc::{AllocError, Global};
 use texts::List;
 
@@ -132,22 +132,12 @@ fn completed_all(
     Ok(all)
 }
 
-fn copy_values(alloc: Global, values: &[Value]) -> Result<List<Value>, AllocError>
-    ensures { IfOk result (λ vs. vs ≡ values.now) }
-{
-    let mut copied = List::new(alloc);
-    for value in values {
-        copied.push(value.copy(alloc)?)?;
-    }
-    Ok(copied)
-}
-
 fn attr_at(alloc: Global, attrs: &[DocAttr], f: u32) -> Result<Option<DocAttr>, AllocError>
     ensures { IfOk result (λ a. option_to_list a ≡ attr_at f attrs.now) }
 {
     for attr in attrs {
         if f == attr.feature {
-            let values = copy_values(alloc, attr.values.as_slice())?;
+            let values = copied_values(alloc, attr.values.as_slice())?;
             return Ok(Some(DocAttr { feature: f, values }));
         }
     }

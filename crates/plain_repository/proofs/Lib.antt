@@ -12,6 +12,7 @@ pub mod Following
 pub mod Growth
 pub mod Kept
 pub mod Listed
+pub mod Loading
 pub mod Merged
 pub mod Merging
 pub mod Names

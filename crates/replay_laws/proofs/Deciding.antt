@@ -11,12 +11,8 @@ use Rattle.ecore_json.specs.declared.fault.EcoreFault.{EcoreFault}
 use Rattle.metamodel_growth.specs.Extension.{missing}
 use Rattle.metamodel_growth.specs.Evolved.{evolved}
 use Rattle.metamodel_growth.specs.Same.{is_same}
-use Rattle.model_state.specs.Steps.{first_stop}
-use Rattle.model_state.specs.Packages.{fold_package, steps_all}
 use Rattle.model_state.specs.Names.{is_name}
 use Rattle.model_state.specs.declared.operation.Operation.{Operation}
-use Rattle.model_state.specs.declared.step.ApplyFault.{ApplyFault}
-use Rattle.model_laws.proofs.Stops.{leads_no_stop}
 use Rattle.footprint.specs.declared.bucket.Bucket.{Bucket}
 use Rattle.merge_laws.specs.Choices.{are_choices}
 use Rattle.merge_laws.specs.Tidy.{is_tidy}
@@ -38,13 +34,14 @@ use Rattle.plain_repository.specs.Commits.{tag_found, can_tag}
 use Rattle.plain_repository.specs.Composites.{begin_in, end_in}
 use Rattle.plain_repository.specs.Local.{undo_in, can_undo, discard_in, can_discard}
 use Rattle.plain_repository.specs.Tidying.{tidy_in, can_tidy}
-use Rattle.plain_repository.specs.Edits.{takes, can_follow}
-use Rattle.plain_repository.specs.Applying.{applied, load_package}
+use Rattle.plain_repository.specs.Edits.{can_follow}
+use Rattle.plain_repository.specs.Applying.{load_package}
 use Rattle.plain_repository.specs.Choices.{chosen}
 use Rattle.plain_repository.specs.Merging.{update_buckets, update_in, update_to, can_update, merge_buckets, merge_in, merge_to, can_merge}
 use Rattle.plain_repository.specs.Merging.{is_other_branch, has_theirs}
 use Rattle.plain_repository.specs.Orderly.{HasNames}
 use Rattle.plain_repository.proofs.Encodings.{and_left, and_right, not_so}
+use Rattle.plain_repository.proofs.Loading.{load_follows}
 use Rattle.plain_repository.proofs.Names.{branch_found}
 use Rattle.replay_script.specs.Lines.{is_of_branch}
 
@@ -280,18 +277,7 @@ merge_makes s meta ws branch letters (Some w) named has is =
     (sym (word_back letters)) (made s [] _ (Merge ws branch letters) has))))))
 
 -- ---- edits
-has_value : {X : Type 0} (o : Option X) → is_some o ≡ true → (x : X) × (o ≡ Some x)
-has_value None is = absurd cc
-has_value (Some x) is = (x, refl)
-
 pub load_makes : (s : State) (meta : Meta) (ws : ℕ) (w : Workspace) (operations : List Operation) → HasRoom s (Edit ws operations)
     → can_follow meta s.history (Some w) operations ≡ true
     → Makes (load_package s meta ws w operations) (Edit ws operations)
-load_makes s meta ws w [] has is = absurd cc
-load_makes s meta ws w (o ∷ os) has is =
-    let m = model_of meta s.history w in
-    let fits = and_left (takes w.composite (o ∷ os)) (is_some (fold_package meta m (o ∷ os))) is in
-    let run = has_value (fold_package meta m (o ∷ os)) (and_right (takes w.composite (o ∷ os)) (is_some (fold_package meta m (o ∷ os))) is) in
-    let none : first_stop meta m (steps_all (o ∷ os)) ≡ None = leads_no_stop meta m run.0 (steps_all (o ∷ os)) run.1 in
-    if_so (takes w.composite (o ∷ os)) (λ (d : Decision). Makes d (Edit ws (o ∷ os))) _ _ fits
-    (subst (λ (stop : Option ApplyFault). Makes (applied s ws (o ∷ os) stop) (Edit ws (o ∷ os))) (sym none) (made s [] [] (Edit ws (o ∷ os)) has))
+load_makes s meta ws w operations has is = rw (load_follows s meta ws w operations is) (made s [] [] (Edit ws operations) has)
