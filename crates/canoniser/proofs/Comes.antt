@@ -1,4 +1,4 @@
--- Operations by their places, as they come, stand and go.
+-- Operations by their positions, as they come, stand and go.
 use Rattle.std.proofs.Common.{◌≡◌, ℕ, zero, suc, ◌+◌, ◌<◌, ◌≤◌, Bool, true, false, List, [], ◌∷◌, ◌++◌, refl, sym, ap, subst, ◌∙◌, length, get_or}
 use Rattle.std.proofs.Common.{set, arith, append_assoc, append-nil, length-append}
 use Rattle.std.specs.Prelude.{Option, None, Some, MatchOption, IfSome}
@@ -44,7 +44,7 @@ part_apart meta b (true ∷ gs) (y ∷ ys) h out =
     (out 0 y (omega arith) refl refl, part_apart meta b gs ys (omega (arith, h)) (λ j z low on is. out (suc j) z (omega (arith, low)) on is))
 part_apart meta b (false ∷ gs) (y ∷ ys) h out = part_apart meta b gs ys (omega (arith, h)) (λ j z low on is. out (suc j) z (omega (arith, low)) on is)
 
--- flags and operations, cut at a place where one stands
+-- flags and operations, cut at a position where one stands
 pub record Cut (fs : List Bool) (xs : List Operation) (i : ℕ) : Type 0 where
   pub first : List Bool
   pub second : List Bool
@@ -115,7 +115,7 @@ module _ (meta : Meta) (prints : List Print) (ops : List Operation) (is : shown 
   some_hit stands at k p b y low p_is b_is y_is hit =
       sym (touch_tells at k p b y low (let below = hit.low in omega (arith, low, below)) p_is b_is y_is) ∙ hit.near
 
--- ---- places
+-- ---- positions
 seam : {A : Type 0} (xs ys : List A) (a : A) (i : ℕ) → length xs ≡ i → a ≡ get_or (xs ++ (a ∷ ys)) i a
 seam xs ys a i e = sym (ap (λ n. get_or (xs ++ (a ∷ ys)) n a) (sym e) ∙ get_or-append_seam xs a ys a)
 
@@ -132,7 +132,7 @@ unfolding printed
 same_place meta [] back a c w r = λ t. (w t, r t) ∷ printed meta back
 same_place meta (x ∷ front) back a c w r = ap (λ l. (op_writes meta x, op_reads x) ∷ l) (same_place meta front back a c w r)
 
--- what a turn makes of the flags and operations, where it gives a place or none
+-- what a turn makes of the flags and operations, where it gives a position or none
 pub record Turned (meta : Meta) (stands made : List Bool) (prints : List Print) (ops new : List Operation) (at : ℕ) (o : Option ℕ) : Type 0 where
   pub printed : shown prints ≡ printed meta new
   pub leads : Leads meta (standing_of stands ops) (standing_of made new)
@@ -170,7 +170,7 @@ module _ (meta : Meta) (stands : List Bool) (prints : List Print) (ops : List Op
       ∙ kept_append r.first (true ∷ r.second) r.front (r.b ∷ (r.back ++ r.rest)) r.many
       ∙ ap (λ l. standing_of r.first r.front ++ (r.b ∷ l)) (kept_rest r.second r.back r.rest r.more)
 
-  -- what stands before the place
+  -- what stands before the position
   front_flag : (k : ℕ) → k < length r.front → get_or stands k false ≡ get_or r.first k false
   front_flag k low = ap (λ l. get_or l k false) r.stands_is ∙ get_or_append_left r.first (true ∷ r.second) false k (let m = r.many in omega (arith, low, m))
 
@@ -197,7 +197,7 @@ module _ (meta : Meta) (stands : List Bool) (prints : List Print) (ops : List Op
       (λ k y low on y_is. no_hit meta prints ops is stands at k p_there.0 r.b y within_ops (let p = r.place in omega (arith, low, p)) p_there.1 b_is
       (y_is ∙ sym (front_op k y low)) (front_flag k low ∙ on) (none k))))
 
-  -- the last that touches it, at a place before it
+  -- the last that touches it, at a position before it
   module _ (i : ℕ) (last : LastHit stands prints p_there.0 at i) where
     low : i < length r.front
     low = let below = last.hit.low in let p = r.place in omega (arith, below, p)
@@ -240,7 +240,7 @@ module _ (meta : Meta) (stands : List Bool) (prints : List Print) (ops : List Op
       settled : Settled meta (onto ((standing_of cut.first cut.front ++ (cut.a ∷ standing_of cut.second cut.mid)) ++ standing_of r.second r.back) [])
       settled = subst (λ l. Settled meta (onto (l ++ standing_of r.second r.back) [])) front_is r.settled
 
-      -- the flags and operations around both places
+      -- the flags and operations around both positions
       flags_around : stands ≡ (cut.first ++ (true ∷ cut.second)) ++ (true ∷ r.second)
       flags_around = r.stands_is ∙ ap (λ l. l ++ (true ∷ r.second)) cut.flags
 
@@ -342,7 +342,7 @@ module _ (meta : Meta) (stands : List Bool) (prints : List Print) (ops : List Op
           ∙ ap (λ l. standing_of cut.first cut.front ++ (c ∷ l)) rest_kept
           ∙ ap (λ o. standing_of cut.first cut.front ++ (list_of o ++ (standing_of cut.second cut.mid ++ (standing_of r.second r.back ++ r.rest)))) (sym one))
 
-      -- what is left has the cells of the operation whose place it takes
+      -- what is left has the cells of the operation whose position it takes
       left_printed : (c : Operation) → left ≡ Some c → shown prints ≡ printed meta (set ops i c)
       left_printed c one =
           let same = met_print meta cut.a r.b c (rule ∙ ap (λ o. Some (list_of o)) one) in

@@ -20,7 +20,7 @@ op_same xs k x y low x_is y_is = x_is ∙ op_default xs k x y low ∙ sym y_is
 some_same : {A : Type 0} (x y : A) → Some x ≡ Some y → x ≡ y
 some_same x y h = cc
 
--- by the last place that touches, and the operations of both
+-- by the last position that touches, and the operations of both
 module _ (stands : List Bool) (prints : List Print) (ops : List Operation) (at i : ℕ) (x y : Operation)
     (last : (p : Print) → p ≡ get_or prints at p → LastHit stands prints p at i)
     (low : i < at) (inside : at < length ops) (x_is : x ≡ get_or ops i x) (y_is : y ≡ get_or ops at y) where

@@ -30,12 +30,12 @@ abbrev pub Apart : Meta → Operation → List Operation → Type 0
 Apart meta b [] = Unit {0}
 Apart meta b (y ∷ ys) = (touches meta b y ≡ false) × Apart meta b ys
 
--- a rule applies to the operations of two places, the earlier of which is the last that touches the later, and leaves what is given
+-- a rule applies to the operations of two positions, the earlier of which is the last that touches the later, and leaves what is given
 pub record RuleAt (stands : List Bool) (prints : List Print) (ops : List Operation) (at i : ℕ) (left : Option Operation) : Type 0 where
   pub last : (p : Print) → p ≡ get_or prints at p → LastHit stands prints p at i
   pub rule : (a b : Operation) → a ≡ get_or ops i a → b ≡ get_or ops at b → met a b ≡ Some (list_of left)
 
--- no rule applies to the operation of the place and the last that touches it, or none does
+-- no rule applies to the operation of the position and the last that touches it, or none does
 pub record NoRuleAt (stands : List Bool) (prints : List Print) (ops : List Operation) (at : ℕ) : Type 0 where
   pub o : Option ℕ
   pub last : (p : Print) → p ≡ get_or prints at p → IsLast stands prints p at o
@@ -49,7 +49,7 @@ pub record Calm (meta : Meta) (stands : List Bool) (ops : List Operation) : Type
   pub many : length stands ≡ length come
   pub settled : Settled meta (onto (standing_of stands come) [])
 
--- An operation stands at the place. No rule applies to the others that were added and stand, and none of those after the place
+-- An operation stands at the position. No rule applies to the others that were added and stand, and none of those after the position
 -- touches it.
 pub record Ready (meta : Meta) (stands : List Bool) (ops : List Operation) (at : ℕ) : Type 0 where
   pub first : List Bool
@@ -70,7 +70,7 @@ pub record Ready (meta : Meta) (stands : List Bool) (ops : List Operation) (at :
 abbrev pub Leads : Meta → List Operation → List Operation → Type 0
 Leads meta p q = (r : List Operation) → Settles meta q r → Settles meta p r
 
--- what stands where the operation of a place is removed, and with it, where nothing is left, an earlier one
+-- what stands where the operation of a position is removed, and with it, where nothing is left, an earlier one
 abbrev pub stands_out : List Bool → ℕ → ℕ → Option Operation → List Bool
 stands_out stands i at None = set (set stands at false) i false
 stands_out stands i at (Some c) = set stands at false
@@ -80,7 +80,7 @@ abbrev pub ops_out : List Operation → ℕ → Option Operation → List Operat
 ops_out ops i None = ops
 ops_out ops i (Some c) = set ops i c
 
--- the place of what is left
+-- the position of what is left
 abbrev pub place_left : ℕ → Option Operation → Option ℕ
 place_left i None = None
 place_left i (Some c) = Some i

@@ -9,14 +9,14 @@ use footprint::Print;
 use model_state::Operation;
 use std::alloc::{AllocError, Global};
 
-/// A place before an operation at which a rule applies to it, and what the rule leaves.
+/// A position before an operation at which a rule applies to it, and what the rule leaves.
 #[derive(Drop)]
 pub(crate) struct Found {
     pub at: usize,
     pub left: Option<Operation>,
 }
 
-/// The rule that applies to the operation of the place and the nearest earlier one, with no operation between them that
+/// The rule that applies to the operation of the position and the nearest earlier one, with no operation between them that
 /// interferes. A rule applies only to operations that touch. Two that touch and to which no rule applies interfere; so
 /// the last that touches decides.
 pub(crate) fn nearest(

@@ -12,7 +12,7 @@ use footprint::Print;
 use model_state::Operation;
 use std::alloc::{AllocError, Global};
 
-/// Takes a rule, and gives the place of what it leaves.
+/// Takes a rule, and gives the position of what it leaves.
 fn take_out(
     list: &mut Vec<Operation>,
     standing: &mut Standing,
@@ -36,7 +36,7 @@ fn take_out(
             standing.remove(prints, place);
             None
         }
-        // It has the cells of the operation whose place it takes.
+        // It has the cells of the operation whose position it takes.
         Some(op) => {
             list[place] = op;
             Some(place)
@@ -44,8 +44,8 @@ fn take_out(
     }
 }
 
-/// Takes the rule that applies to the operation of the place and an earlier one, if one does. Where it leaves one operation for
-/// both, gives its place: a rule may apply to that one again, and to no other.
+/// Takes the rule that applies to the operation of the position and an earlier one, if one does. Where it leaves one operation for
+/// both, gives its position: a rule may apply to that one again, and to no other.
 fn turn(
     alloc: Global,
     meta: &Metamodel,

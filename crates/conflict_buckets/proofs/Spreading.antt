@@ -71,7 +71,7 @@ linked_on prints start i k on m meta ops is =
     (sym (get_or_from_slice_get ops k b.0 b.0 b.1)) in
     next (on meta ops is) a.1 b.1 (sym tells ∙ m.meets)
 
--- what the index finds near the operation at a place
+-- what the index finds near the operation at a position
 pub met_meets : (prints : List Print) (place k : ℕ) (p : Print) → place < length prints → p ≡ get_or prints place p → IsMet prints p k → Meets prints place k
 met_meets prints place k p low is met = record {
   one = p;
@@ -127,7 +127,7 @@ module _ (prints : List Print) (start at place : ℕ) (ls : List ℕ) (flags : L
   in_flags : place < length flags
   in_flags = let e = is.reached_size in omega (arith, e, there)
 
-  -- what was reached before is another place
+  -- what was reached before is another position
   other : (k : ℕ) → get_or flags k false ≡ true → k ≢ place
   other k on e = true_false (get_or flags k false) on (ap (λ n. get_or flags n false) e ∙ new)
 
@@ -143,7 +143,7 @@ module _ (prints : List Print) (start at place : ℕ) (ls : List ℕ) (flags : L
   last : get_or (order ++ place ∷ []) (length order) 0 ≡ place
   last = get_or-append_seam order place [] 0
 
-  -- a place of the longer order is one of the order, or the last
+  -- a position of the longer order is one of the order, or the last
   by_place : (P : ℕ → Type 0) (m : ℕ) → m < length (order ++ place ∷ []) → (m < length order → P (get_or order m 0)) → (m ≡ length order → P place)
       → P (get_or (order ++ place ∷ []) m 0)
   by_place P m low old own = same_or_not m (length order)

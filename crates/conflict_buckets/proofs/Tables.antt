@@ -1,4 +1,4 @@
--- The places of labels, as one label more is gone over.
+-- The positions of labels, as one label more is gone over.
 use Rattle.std.proofs.Common.{◌≡◌, ℕ, zero, suc, ◌+◌, ◌<◌, ◌≤◌, Bool, true, false, cond, nat_eq, List, [], ◌∷◌, ◌++◌, refl, sym, ap, ◌∙◌, map, take}
 use Rattle.std.proofs.Common.{length, get_or, set, arith, length-set}
 use Rattle.std.proofs.Math.Seq.{take-suc}

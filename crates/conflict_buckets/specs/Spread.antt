@@ -8,7 +8,7 @@ use Rattle.footprint.specs.Prints.{shown, printed}
 use Rattle.merge_laws.specs.Classes.{Linked}
 use Rattle.cell_index.specs.Near.{prints_interfere}
 
--- the operations at the two places interfere
+-- the operations at the two positions interfere
 pub record Meets (prints : List Print) (i k : ℕ) : Type 0 where
   pub one : Print
   pub other : Print
@@ -22,11 +22,11 @@ unset [] = 0
 unset (true ∷ flags) = unset flags
 unset (false ∷ flags) = suc (unset flags)
 
--- the operations that the prints are of have the two places linked
+-- the operations that the prints are of have the two positions linked
 abbrev pub AreLinked : List Print → ℕ → ℕ → Type 0
 AreLinked prints i k = (meta : Meta) (ops : List Operation) → shown prints ≡ printed meta ops → Linked meta ops i k
 
--- The labels so far. An operation is reached once it has its label for good, and until then its label is its own place. `order` has those
+-- The labels so far. An operation is reached once it has its label for good, and until then its label is its own position. `order` has those
 -- reached, one after another: what interferes with the first `at` of them is reached too, and has their label; the others are labelled
 -- `start`, and all before `start` are reached.
 pub record AreSpread (prints : List Print) (start at : ℕ) (labels : List ℕ) (reached : List Bool) (order : List ℕ) : Type 0 where

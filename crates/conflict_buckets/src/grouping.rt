@@ -14,7 +14,7 @@ use model_state::Package;
 use std::alloc::{AllocError, Global};
 use texts::List;
 
-/// Puts the place into the list of the label.
+/// Puts the position into the list of the label.
 fn put_place(table: &mut Vec<Vec<u64>>, label: usize, place: u64) -> Result<(), AllocError>
     requires { label < length table.old.items }
     ensures { OnOk result (IsPut table.old.items table.new.items label place) }
@@ -34,7 +34,7 @@ fn put_label(table: &mut Vec<Vec<u64>>, label: u64, place: u64) -> Result<(), Al
     Ok(())
 }
 
-/// For each label below the size its places, rising.
+/// For each label below the size its positions, rising.
 fn places_by_label(alloc: Global, size: usize, labels: &[u64]) -> Result<Vec<Vec<u64>>, AllocError>
     ensures size { IfOk result (λ t. length t.items ≡ size) }
     ensures places { IfOk result (λ t. (l : ℕ) → l < size → list_at t.items l ≡ places l labels.now) }

@@ -1,4 +1,4 @@
-//! The label of each operation: the place of the first operation of its component.
+//! The label of each operation: the position of the first operation of its component.
 ghost use Rattle.std.specs.Prelude.{◌≡◌, ℕ, ◌+◌, ◌<◌, ◌++◌, ◌∷◌, [], List, true, false, IfOk, OnOk, length, set, get_or};
 ghost use Rattle.std.specs.List.{Contains};
 ghost use Rattle.ecore_meta.specs.Meta.{Meta};
@@ -15,15 +15,15 @@ use std::alloc::{AllocError, Global};
 /// Labels as they are spread from operation to operation.
 #[derive(Drop)]
 pub(crate) struct Labels {
-    /// The label of each operation. It is its own place until the operation is reached.
+    /// The label of each operation. It is its own position until the operation is reached.
     labels: Vec<u64>,
     /// Whether an operation is reached, and has its label for good.
     reached: Vec<bool>,
-    /// The places of those that are, in the order in which they were reached.
+    /// The positions of those that are, in the order in which they were reached.
     order: Vec<u64>,
 }
 
-/// So many places, from 0.
+/// So many positions, from 0.
 fn places_below(alloc: Global, size: usize) -> Result<Vec<u64>, AllocError>
     ensures size { IfOk result (λ v. length v.items ≡ size) }
     ensures own { IfOk result (λ v. (k : ℕ) → k < size → get_or v.items k 0 ≡ k) }
@@ -63,7 +63,7 @@ impl Labels {
         Ok(())
     }
 
-    /// The operation of a place that is linked with the label is reached, if it isn't yet.
+    /// The operation of a position that is linked with the label is reached, if it isn't yet.
     fn reach_new(
         &mut self,
         prints: &[Print],
@@ -106,7 +106,7 @@ impl Labels {
         Ok(())
     }
 
-    /// All that interfere with the operation at a place of the order are reached.
+    /// All that interfere with the operation at a position of the order are reached.
     fn pass(
         &mut self,
         alloc: Global,
@@ -128,7 +128,7 @@ impl Labels {
         Ok(())
     }
 
-    /// All that are linked with the operation of a place are reached, and labelled by it. It does nothing where that one is reached already.
+    /// All that are linked with the operation of a position are reached, and labelled by it. It does nothing where that one is reached already.
     fn spread(
         &mut self,
         alloc: Global,
@@ -155,7 +155,7 @@ impl Labels {
     }
 }
 
-/// The label of each operation: the least place linked to it. Each operation is passed once. What the index lists under its cells is
+/// The label of each operation: the least position linked to it. Each operation is passed once. What the index lists under its cells is
 /// taken out there as it is reached, so that it is looked at once for a cell.
 pub(crate) fn labels_of(alloc: Global, prints: &[Print]) -> Result<Vec<u64>, AllocError>
     ensures labels { IfOk result (λ v. (meta : Meta) (ops : List Operation) → shown prints.now ≡ printed meta ops → v.items ≡ labels meta ops) }

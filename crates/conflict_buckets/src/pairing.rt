@@ -49,7 +49,7 @@ fn pairs_among(
     Ok(found)
 }
 
-/// The places of each operation of theirs and each of mine that interfere, in order. Each of the ones is compared with each of the others.
+/// The positions of each operation of theirs and each of mine that interfere, in order. Each of the ones is compared with each of the others.
 pub fn pairs(
     alloc: Global,
     theirs: &Package,

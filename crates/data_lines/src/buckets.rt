@@ -11,7 +11,7 @@ use std::alloc::{AllocError, Global};
 use texts::{List, Text};
 
 /// The lines of buckets: for each `bucket N theirs LIST mine LIST`, with N from 1. A LIST is the numbers of the bucket's operations of that
-/// side, from 1, with commas between them. A place counts from 0, so each is to be less than the last number of 64 bits.
+/// side, from 1, with commas between them. A position counts from 0, so each is to be less than the last number of 64 bits.
 #[tactic(auto, unfolding(shown_lines::specs::Buckets::bucket_lines))]
 pub fn bucket_lines(alloc: Global, buckets: &Buckets) -> Result<List<Text>, AllocError>
     requires numbers { HaveNumbers buckets.now }
@@ -40,7 +40,7 @@ fn bucket_line(alloc: Global, n: u64, bucket: &Bucket) -> Result<Text, AllocErro
     line.into_text()
 }
 
-/// The numbers of operations in decimal, by their places.
+/// The numbers of operations in decimal, by their positions.
 fn numbers_of(alloc: Global, places: &[u64]) -> Result<List<Text>, AllocError>
     requires { All HasNumber places.now }
     ensures { IfOk result (λ texts. texts ≡ numbers places.now) }

@@ -1,4 +1,4 @@
-//! The merge of opposites: a reference's list has the targets that its element gives, then the elements that name it.
+//! How lists are completed by opposites: a reference's list has the targets that its element gives, then the elements that name it.
 ghost use Rattle.std.specs.Prelude.{◌≡◌, IfOk, [], ◌++◌, nat_eq, not, option_to_list};
 ghost use Rattle.std.specs.List.{filter, list_any};
 ghost use Rattle.emfjson_drafts.specs.Answers.{Gives};

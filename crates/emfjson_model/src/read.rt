@@ -1,4 +1,4 @@
-//! The reading of a model text: JSON, then the walk that gives drafts, then references looked up and merged.
+//! The reading of a model text: JSON, then the walk that gives drafts, then references looked up and lists completed.
 ghost use Rattle.emfjson_drafts.specs.Answers.{Gives};
 ghost use Rattle.emfjson_model.specs.Answers.{GivesDoc};
 ghost use Rattle.model_documents.specs.Document.{doc_of, resolved};
@@ -12,7 +12,7 @@ use serde_json::Value;
 use std::alloc::Global;
 use texts::List;
 
-/// The references of the elements are looked up, and then merged.
+/// The references of the elements are looked up, and then the lists are completed.
 fn resolved(
     alloc: Global,
     meta: &Metamodel,

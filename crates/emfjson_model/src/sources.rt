@@ -1,4 +1,4 @@
-//! The index from a target back to the elements that name it, from which opposites are merged.
+//! The index from a target back to the elements that name it, from which lists are completed.
 ghost use Rattle.std.specs.Prelude.{◌≡◌, ◌&&◌, [], IfOk, OnOk, nat_eq};
 ghost use Rattle.std.specs.List.{list_any};
 ghost use Rattle.model_documents.specs.declared.doc.DocParent.{DocParent};

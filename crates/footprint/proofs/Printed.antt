@@ -1,4 +1,4 @@
--- The prints of operations, by their places.
+-- The prints of operations, by their positions.
 use Rattle.std.proofs.Common.{◌≡◌, ℕ, zero, suc, ◌+◌, ◌<◌, ◌≤◌, List, [], ◌∷◌, ◌++◌, refl, sym, ap, ◌∙◌, drop, length, get_or, arith, append_assoc}
 use Rattle.std.proofs.Common.{append-nil, drop-cons}
 use Rattle.std.proofs.lemmas.List.{map-append}
@@ -34,7 +34,7 @@ first_same x y xs ys h = (cc, cc)
 rest_same : (x y : List Cell × List Cell) (xs ys : List (List Cell × List Cell)) → x ∷ xs ≡ y ∷ ys → xs ≡ ys
 rest_same x y xs ys h = cc
 
--- the print at a place is that of the operation there
+-- the print at a position is that of the operation there
 pub print_at : (meta : Meta) (prints : List Print) (ops : List Operation) (i : ℕ) (p : Print) (o : Operation) → shown prints ≡ printed meta ops
     → i < length ops → p ≡ get_or prints i p → o ≡ get_or ops i o
     → (cells p.writes ≡ op_writes meta o) × (cells p.reads ≡ op_reads o)
@@ -48,7 +48,7 @@ print_at meta (r ∷ prints) (q ∷ ops) (suc i) p o h low is at =
     print_at meta prints ops i p o (rest_same (cells r.writes, cells r.reads) (op_writes meta q, op_reads q) (shown prints) (printed meta ops) h)
     (omega (arith, low)) is at
 
--- the prints at two places show whether the operations there interfere
+-- the prints at two positions show whether the operations there interfere
 pub places_tell : (meta : Meta) (prints : List Print) (ops : List Operation) (i j : ℕ) (p q : Print) (a b : Operation)
     → shown prints ≡ printed meta ops → i < length ops → j < length ops
     → p ≡ get_or prints i p → q ≡ get_or prints j q → a ≡ get_or ops i a → b ≡ get_or ops j b

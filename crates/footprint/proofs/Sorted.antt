@@ -133,7 +133,7 @@ search_tells list order c r some is bound answer =
     ∙ ap (λ test. list_any test order) (λ t i. tied_at list c i t)
     ∙ (is some).1 (λ h. cell_eq (seen c) (seen h))
 
--- ---- all places
+-- ---- all positions
 shifted : (test : Held → Bool) (h : Held) (list : List Held) (a n : ℕ)
     → list_any (passes_at test (h ∷ list)) (range_with_len (suc a) n) ≡ list_any (passes_at test list) (range_with_len a n)
 shifted test h list a zero = refl
@@ -157,7 +157,7 @@ next_place n =
     let one : n + 1 ≡ suc n = omega arith in
     ap (range_with_len 0) one ∙ range_more 0 n n (omega arith)
 
--- the places in another order hold the cells
+-- the positions in another order hold the cells
 pub places_moved : (list : List Held) (places order : List ℕ) → places ≡ range_with_len 0 (length list) → IsPermutation places order
     → (test : Held → Bool) → list_any (passes_at test list) order ≡ list_any test list
 places_moved list places order is moved test =

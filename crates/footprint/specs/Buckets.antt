@@ -11,12 +11,12 @@ hits meta o [] ls l = false
 hits meta o (p ∷ ps) [] l = false
 hits meta o (p ∷ ps) (m ∷ ls) l = (nat_eq m l && interferes meta o p) || hits meta o ps ls l
 
--- each operation's label is the place of the first operation of its component: an operation takes in the components that it interferes with
+-- each operation's label is the position of the first operation of its component: an operation takes in the components that it interferes with
 unfoldable pub labels : Meta → List Operation → List ℕ
 labels meta [] = []
 labels meta (o ∷ os) = 0 ∷ map (λ l. cond (hits meta o os (labels meta os) l) 0 (suc l)) (labels meta os)
 
--- the places with the label, rising
+-- the positions with the label, rising
 abbrev pub places : ℕ → List ℕ → List ℕ
 places l [] = []
 places l (m ∷ ms) = cond (nat_eq m l) (0 ∷ map suc (places l ms)) (map suc (places l ms))
@@ -27,7 +27,7 @@ mixed [] ys = []
 mixed (x ∷ xs) [] = []
 mixed (x ∷ xs) (y ∷ ys) = record { theirs = x ∷ xs; mine = y ∷ ys } ∷ []
 
--- the mixed components whose first operation stands below a place, in order
+-- the mixed components whose first operation stands below a position, in order
 abbrev pub buckets_below : List ℕ → List ℕ → ℕ → List Bucket
 buckets_below ts ms zero = []
 buckets_below ts ms (suc n) = buckets_below ts ms n ++ mixed (places n ts) (places n ms)

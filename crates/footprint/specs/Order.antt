@@ -1,4 +1,4 @@
--- The order of cells, and the places of cells by it.
+-- The order of cells, and the positions of cells by it.
 use Rattle.std.specs.Prelude.{◌≡◌, ℕ, ◌<◌, Bool, false, List, length, slice_get}
 use Rattle.std.specs.Cmp.Lexicographic.{slice_cmp}
 use Rattle.std.specs.List.{list_any}
@@ -28,15 +28,15 @@ held_cmp (Row a f x) (Row b g y) = ordering_then (slice_cmp nat_cmp a b) (orderi
 held_cmp (Whole a f) (Whole b g) = ordering_then (slice_cmp nat_cmp a b) (nat_cmp f g)
 held_cmp c d = nat_cmp (sort c) (sort d)
 
--- the cells at two places
+-- the cells at two positions
 abbrev pub place_cmp : List Held → ℕ → ℕ → Ordering
 place_cmp list i j = option_cmp held_cmp (slice_get list i) (slice_get list j)
 
--- the cell at the place passes the test
+-- the cell at the position passes the test
 abbrev pub passes_at : (Held → Bool) → List Held → ℕ → Bool
 passes_at test list i = option_map_or test (slice_get list i) false
 
--- Where there are places, they rise by their cells. A test passes at one of them exactly where it passes a cell of the list.
+-- Where there are positions, they rise by their cells. A test passes at one of them exactly where it passes a cell of the list.
 abbrev pub IsOrder : List Held → List ℕ → Type 0
 IsOrder list order = 0 < length order
     → IsSortedBy (λ i j. is_lt (place_cmp list i j)) order × ((test : Held → Bool) → list_any (passes_at test list) order ≡ list_any test list)

@@ -1,7 +1,7 @@
 //! Buckets, as the calls that group conflicts give them.
 use texts::List;
 
-/// The places of the operations of one bucket, counted from 0 on each side, rising.
+/// The positions of the operations of one bucket, counted from 0 on each side, rising.
 #[derive(Drop)]
 pub struct Bucket {
     pub theirs: List<u64>,

@@ -22,7 +22,7 @@ pub enum Cell {
 }
 
 /// The cells that an operation writes, and those that it reads, in the order of its steps. Where there are many, it
-/// keeps their places by the order of cells too. So one of them is found without a walk over all.
+/// keeps their positions by the order of cells too. So one of them is found without a walk over all.
 #[derive(Drop)]
 pub struct Print {
     pub writes: List<Cell>,

@@ -1,4 +1,4 @@
-//! The places of cells in the order of cells, by which one is found among many.
+//! The positions of cells in the order of cells, by which one is found among many.
 ghost use Rattle.std.specs.Prelude.{◌≡◌, ◌<◌, IfOk, None, Some, length, slice_get};
 ghost use Rattle.std.specs.List.{range_with_len};
 ghost use Rattle.std.specs.Option.{option_cmp, option_copied};
@@ -44,14 +44,14 @@ impl Cell {
     }
 }
 
-/// The cell at a place against a cell.
+/// The cell at a position against a cell.
 fn against(list: &[Cell], i: usize, cell: &Cell) -> Ordering
     ensures { result ≡ option_cmp held_cmp (slice_get list.now i) (Some cell.now) }
 {
     list.get(i).cmp(&Some(cell))
 }
 
-/// The cell at a place against none.
+/// The cell at a position against none.
 fn against_none(list: &[Cell], i: usize) -> Ordering
     ensures { result ≡ option_cmp held_cmp (slice_get list.now i) None }
 {
@@ -64,7 +64,7 @@ fn cell_at(list: &[Cell], i: usize) -> Option<&Cell>
     list.get(i)
 }
 
-/// The cells at two places.
+/// The cells at two positions.
 fn by_cell(list: &[Cell], i: usize, j: usize) -> Ordering
     ensures { result ≡ place_cmp list.now i j }
 {
@@ -74,7 +74,7 @@ fn by_cell(list: &[Cell], i: usize, j: usize) -> Ordering
     }
 }
 
-/// The places of so many cells.
+/// The positions of so many cells.
 fn places(alloc: Global, count: usize) -> Result<Vec<usize>, AllocError>
     ensures { IfOk result (λ v. v.items ≡ range_with_len 0 count) }
 {
@@ -85,7 +85,7 @@ fn places(alloc: Global, count: usize) -> Result<Vec<usize>, AllocError>
     Ok(places)
 }
 
-/// The places of the cells by the order of cells.
+/// The positions of the cells by the order of cells.
 fn sorted_places(alloc: Global, list: &[Cell]) -> Result<Vec<usize>, AllocError>
     ensures { IfOk result (λ v. IsOrder list.now v.items) }
 {
@@ -97,7 +97,7 @@ fn sorted_places(alloc: Global, list: &[Cell]) -> Result<Vec<usize>, AllocError>
 /// So many cells at most are searched one by one, and need no order.
 const FEW: usize = 8;
 
-/// The places of the cells by the order of cells, or none of few cells.
+/// The positions of the cells by the order of cells, or none of few cells.
 pub(crate) fn order_of(alloc: Global, list: &[Cell]) -> Result<Vec<usize>, AllocError>
     ensures { IfOk result (λ v. IsOrder list.now v.items) }
 {

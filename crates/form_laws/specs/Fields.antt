@@ -22,14 +22,14 @@ abbrev pub fields_encoding : List Field → List ℕ
 fields_encoding [] = []
 fields_encoding (field ∷ fields) = field_encoding field ++ fields_encoding fields
 
--- where a field of the same kind ends that begins at a place of bytes; the length of a text is in its first four bytes
+-- where a field of the same kind ends that begins at an offset of bytes; the length of a text is in its first four bytes
 abbrev pub field_end : Field → ℕ → List ℕ → ℕ
 field_end (Byte n) offset bytes = offset + 1
 field_end (Number n) offset bytes = offset + 4
 field_end (LongNumber n) offset bytes = offset + 8
 field_end (Text text) offset bytes = offset + 4 + from_be_bytes w32 (take 4 (drop offset bytes))
 
--- the same of the first of these fields; where there is none, what stands at the place is a byte too much
+-- the same of the first of these fields; where there is none, what stands at the offset is a byte too much
 abbrev pub first_end : List Field → ℕ → List ℕ → ℕ
 first_end [] offset bytes = offset + 1
 first_end (field ∷ fields) offset bytes = field_end field offset bytes

@@ -1,4 +1,4 @@
--- The place at which bytes are refused that are no encoding.
+-- The offset at which bytes are refused that are no encoding.
 use Rattle.std.specs.Prelude.{◌≡◌, ℕ, ◌≤◌, List, ◌++◌, length, take, Result, Err}
 use Rattle.byte_form.specs.Laws.{AreBytes}
 use Rattle.op_form.specs.Packages.{package_encoding}
@@ -11,7 +11,7 @@ use Rattle.op_reading.specs.Events.{event_at, whole_of}
 use Rattle.form_laws.specs.Fields.{Field, fields_encoding, first_end, IsSameUpTo}
 use Rattle.form_laws.specs.Events.{package_fields, event_fields}
 
--- the bytes before the place are the first fields of some value; no encoding is the same up to the end of a field there, of the next one's kind
+-- the bytes before the offset are the first fields of some value; no encoding is the same up to the end of a field there, of the next one's kind
 pub record FitsUpTo {X : Type 0} (Is : X → Type 0) (form : X → List ℕ) (fields : X → List Field) (offset : ℕ) (bytes : List ℕ) : Type 0 where
   pub within : offset ≤ length bytes
   pub value : X
@@ -26,7 +26,7 @@ pub record FitsUpTo {X : Type 0} (Is : X → Type 0) (form : X → List ℕ) (fi
 abbrev pub FieldsAreEncoded : {X : Type 0} → (X → List ℕ) → (X → List Field) → Type 0
 FieldsAreEncoded form fields = (x : _) → form x ≡ fields_encoding (fields x)
 
--- each fault of reading is at such a place
+-- each fault of reading is at such an offset
 abbrev pub FaultsArePlaced : {X : Type 0} → (X → Type 0) → (X → List ℕ) → (X → List Field) → (List ℕ → Result X FormFault) → Type 0
 FaultsArePlaced Is form fields read =
     (bytes : List ℕ) → AreBytes bytes → (fault : FormFault) → read bytes ≡ Err fault

@@ -63,7 +63,7 @@ same_lists {A = A} key (x ∷ xs) (y ∷ ys) p q f g =
     later z w ws (inl e) out = absurd (out e)
     later z w ws (inr i) out = i
 
--- ---- places that rise
+-- ---- positions that rise
 ahead_of : (n : ℕ) (xs : List ℕ) → Above n xs → Ahead (λ x. x) n xs
 ahead_of n [] h = tt
 ahead_of n (x ∷ xs) h = (h.0, ahead_of n xs h.1)
@@ -86,7 +86,7 @@ same_places : (xs ys : List ℕ) → Rising xs → Rising ys → ((i : ℕ) → 
 same_places xs ys p q f g =
     same_lists (λ x. x) xs ys (ranked_of xs p) (ranked_of ys q) (λ i h. in_of i ys (f i (of_in i xs h))) (λ i h. in_of i xs (g i (of_in i ys h)))
 
--- ---- buckets in the order of their first places
+-- ---- buckets in the order of their first positions
 first_of : List ℕ → ℕ
 first_of [] = 0
 first_of (x ∷ xs) = x

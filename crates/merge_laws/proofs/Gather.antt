@@ -44,7 +44,7 @@ gather meta sound p (o ∷ os) m n good none h =
           subst (λ l. Leads meta m l n) (append_assoc k (o ∷ []) d) (join meta m y.0 n (k ++ (o ∷ [])) d turned y.2)
     ] none
 
--- ---- from places to pairs: what is said of the operations at two places, by the tests of the places
+-- ---- from positions to pairs: what is said of the operations at two positions, by the tests of the positions
 abbrev pub Says : Meta → (ℕ → Bool) → Bool → List Operation → Operation → Type 0
 Says meta q t ps o = (k : ℕ) (b : Operation) → slice_get ps k ≡ Some b → q k ≡ t → interferes meta o b ≡ false
 
@@ -66,7 +66,7 @@ free_kept meta o q (b ∷ ps) says =
       | false ↦ λ is. (says 0 b refl is, rest)
     ] refl
 
--- each operation at a place that the test fails is free of the list
+-- each operation at a position that the test fails is free of the list
 kept_pairs : (meta : Meta) (p : ℕ → Bool) (os qs : List Operation)
     → ((i : ℕ) (a : Operation) → slice_get os i ≡ Some a → p i ≡ false → Free meta a qs) → NoPair meta (kept p os) qs
 kept_pairs meta p [] qs free = tt

@@ -1,4 +1,4 @@
--- Operations that interfere have one label, which is no later than their places.
+-- Operations that interfere have one label, which is no later than their positions.
 use Rattle.std.proofs.Common.{◌≡◌, ℕ, zero, suc, ◌≤◌, zero-le, suc-le-suc, Bool, true, false, cond, List, [], ◌∷◌, refl, sym, ap, subst, ◌∙◌, ◌&&◌}
 use Rattle.std.proofs.Common.{◌||◌, map, nat_eq}
 use Rattle.std.specs.Prelude.{Some, slice_get}

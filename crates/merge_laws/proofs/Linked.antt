@@ -1,4 +1,4 @@
--- Labels are equal exactly at linked places, and each is the least of its class.
+-- Labels are equal exactly at linked positions, and each is the least of its component.
 use Rattle.std.proofs.Common.{◌≡◌, ℕ, zero, suc, ◌≤◌, Bool, true, false, cond, List, [], ◌∷◌, refl, sym, ap, subst, ◌∙◌, ◌&&◌, map, nat_eq}
 use Rattle.std.specs.Prelude.{Option, None, Some, slice_get}
 use Rattle.std.specs.Option.{option_map}
@@ -33,7 +33,7 @@ pub linked_place : (meta : Meta) (os : List Operation) (i j : ℕ) (a : Operatio
 linked_place meta os i j a h here = (a, h)
 linked_place meta os i j a h (next {b = y} g x b is) = (y, b)
 
--- linked places have one label
+-- linked positions have one label
 pub linked_label : (meta : Meta) (os : List Operation) (i j : ℕ) → Linked meta os i j → slice_get (labels meta os) i ≡ slice_get (labels meta os) j
 linked_label meta os i j here = refl
 linked_label meta os i j (next {j = m} {a = x} {b = y} g a b is) = linked_label meta os i m g ∙ labels_close meta os m j x y a b is
@@ -105,7 +105,7 @@ labels_linked meta (o ∷ os) (suc i) (suc j) zero h g =
 labels_linked meta (o ∷ os) (suc i) (suc j) (suc l) h g =
     linked_later meta o os i j (labels_linked meta os i j l (still meta o os l i h) (still meta o os l j g))
 
--- a label is the place of an operation with that label
+-- a label is the position of an operation with that label
 pub own_label : (meta : Meta) (os : List Operation) (i l : ℕ) → slice_get (labels meta os) i ≡ Some l → slice_get (labels meta os) l ≡ Some l
 unfolding labels
 own_label meta [] i l h = cc

@@ -1,4 +1,4 @@
--- The buckets stand in the order of their first operations, and their places rise.
+-- The buckets stand in the order of their first operations, and their positions rise.
 use Rattle.std.proofs.Common.{◌≡◌, ℕ, zero, suc, ◌<◌, ◌≤◌, true, false, cond, List, [], ◌∷◌, ◌++◌, refl, sym, ap, subst, ◌∙◌, ◌||◌, map, take, drop}
 use Rattle.std.proofs.Common.{length, nat_eq, arith}
 use Rattle.std.specs.Prelude.{Some, slice_get}
@@ -114,7 +114,7 @@ firsts_join (b ∷ bs) cs = go (take 1 b.theirs) (firsts (bs ++ cs)) (firsts bs)
     go [] all xs ys h = h
     go (z ∷ hs) all xs ys h = ap (λ l. z ∷ l) (go hs all xs ys h)
 
--- each label is the place of an operation with that label, and no later than any
+-- each label is the position of an operation with that label, and no later than any
 Own : List ℕ → Type 0
 Own ts = (i l : ℕ) → slice_get ts i ≡ Some l → (slice_get ts l ≡ Some l) × (l ≤ i)
 
@@ -130,7 +130,7 @@ first_is ts own n x xs h =
     same : (x n : ℕ) → x ≤ n → n ≤ x → x ≡ n
     same x n h g = omega (arith, h, g)
 
--- a mixed component has the one first place, or there is none
+-- a mixed component has the one first position, or there is none
 mixed_first : (ts : List ℕ) → Own ts → (n : ℕ) (xs ys : List ℕ) → places n ts ≡ xs → {G : Type 0} → (firsts (mixed xs ys) ≡ [] → G)
     → (firsts (mixed xs ys) ≡ n ∷ [] → G) → G
 mixed_first ts own n [] ys h none one = none refl

@@ -14,7 +14,7 @@ use Rattle.merge_laws.specs.Grouping.{is_in, SameTheirs, SameMine, shares, Group
 use Rattle.merge_laws.specs.BucketLaws.{BucketsGroupInterfering}
 use Rattle.merge_laws.proofs.Labels.{labelled, labels_close}
 
--- ---- places in lists
+-- ---- positions in lists
 pub left_at : {A : Type 0} (xs ys : List A) (i : ℕ) (x : A) → slice_get xs i ≡ Some x → slice_get (xs ++ ys) i ≡ Some x
 left_at [] ys i x h = cc
 left_at (z ∷ xs) ys zero x h = h
@@ -35,7 +35,7 @@ drop_at zero ls k = let e : 0 + k ≡ k = omega arith in sym (ap (slice_get ls) 
 drop_at (suc n) [] k = refl
 drop_at (suc n) (l ∷ ls) k = let e : suc n + k ≡ suc (n + k) = omega arith in drop_at n ls k ∙ sym (ap (slice_get (l ∷ ls)) e)
 
--- ---- places with a label
+-- ---- positions with a label
 abbrev pub has_label : ℕ → Option ℕ → Bool
 has_label l None = false
 has_label l (Some m) = nat_eq m l

@@ -12,20 +12,20 @@ use Rattle.merge_laws.specs.Classes.{Linked, AreClasses}
 abbrev pub BucketsGroupInterfering : Type 0
 BucketsGroupInterfering = (meta : Meta) (theirs mine : List Operation) → GroupInterfering meta theirs mine (buckets meta theirs mine)
 
--- an operation's label is the least place that is linked to it
+-- an operation's label is the least position that is linked to it
 abbrev pub LabelsAreLeast : Type 0
 LabelsAreLeast = (meta : Meta) (os : List Operation) (i : ℕ) (a : Operation) → slice_get os i ≡ Some a
     → (l : ℕ) × (slice_get (labels meta os) i ≡ Some l) × Linked meta os i l × ((j : ℕ) → Linked meta os i j → l ≤ j)
 
--- the buckets are the classes with operations of both sides
+-- the buckets are the components with operations of both sides
 abbrev pub BucketsAreClasses : Type 0
 BucketsAreClasses = (meta : Meta) (theirs mine : List Operation) → AreClasses meta theirs mine (buckets meta theirs mine)
 
--- the buckets stand in the order of their first operations, and the places in each rise
+-- the buckets stand in the order of their first operations, and the positions in each rise
 abbrev pub BucketsInOrder : Type 0
 BucketsInOrder = (meta : Meta) (theirs mine : List Operation) → InOrder (buckets meta theirs mine)
 
--- a list of buckets that are the classes with operations of both sides, in order, is the buckets
+-- a list of buckets that are the components with operations of both sides, in order, is the buckets
 abbrev pub BucketsLeaveNoChoice : Type 0
 BucketsLeaveNoChoice = (meta : Meta) (theirs mine : List Operation) (bs : List Bucket) → AreClasses meta theirs mine bs → InOrder bs
     → bs ≡ buckets meta theirs mine

@@ -6,21 +6,21 @@ use Rattle.model_state.specs.declared.operation.Operation.{Operation}
 use Rattle.footprint.specs.Interference.{interferes}
 use Rattle.footprint.specs.declared.bucket.Bucket.{Bucket}
 
--- the place is one of these
+-- the position is one of these
 abbrev pub is_in : ℕ → List ℕ → Bool
 is_in i xs = list_any (nat_eq i) xs
 
--- the two places of theirs are in the same buckets
+-- the two positions of theirs are in the same buckets
 abbrev pub SameTheirs : List Bucket → ℕ → ℕ → Type 0
 SameTheirs [] i j = Unit {0}
 SameTheirs (b ∷ bs) i j = (is_in i b.theirs ≡ is_in j b.theirs) × SameTheirs bs i j
 
--- the two places of mine are in the same buckets
+-- the two positions of mine are in the same buckets
 abbrev pub SameMine : List Bucket → ℕ → ℕ → Type 0
 SameMine [] i j = Unit {0}
 SameMine (b ∷ bs) i j = (is_in i b.mine ≡ is_in j b.mine) × SameMine bs i j
 
--- a place of theirs and one of mine are in one bucket
+-- a position of theirs and one of mine are in one bucket
 abbrev pub shares : List Bucket → ℕ → ℕ → Bool
 shares bs i k = list_any (λ b. is_in i b.theirs && is_in k b.mine) bs
 

@@ -9,26 +9,26 @@ use Rattle.merge_laws.specs.Grouping.{is_in}
 use Rattle.merge_laws.specs.declared.side.Side.{Side}
 use Rattle.merge_laws.specs.declared.side.Side.TheVariants.{Mine, Theirs}
 
--- the place of theirs is in a bucket that keeps mine
+-- the position of theirs is in a bucket that keeps mine
 abbrev pub drops_theirs : List Bucket → List Side → ℕ → Bool
 drops_theirs [] sides i = false
 drops_theirs (b ∷ bs) [] i = false
 drops_theirs (b ∷ bs) (Mine ∷ sides) i = is_in i b.theirs || drops_theirs bs sides i
 drops_theirs (b ∷ bs) (Theirs ∷ sides) i = drops_theirs bs sides i
 
--- the place of mine is in a bucket that keeps theirs
+-- the position of mine is in a bucket that keeps theirs
 abbrev pub drops_mine : List Bucket → List Side → ℕ → Bool
 drops_mine [] sides k = false
 drops_mine (b ∷ bs) [] k = false
 drops_mine (b ∷ bs) (Theirs ∷ sides) k = is_in k b.mine || drops_mine bs sides k
 drops_mine (b ∷ bs) (Mine ∷ sides) k = drops_mine bs sides k
 
--- the operations at the places that pass the test
+-- the operations at the positions that pass the test
 abbrev pub dropped : (ℕ → Bool) → List Operation → List Operation
 dropped p [] = []
 dropped p (o ∷ os) = cond (p 0) (o ∷ dropped (λ i. p (suc i)) os) (dropped (λ i. p (suc i)) os)
 
--- the operations at the places that do not pass the test
+-- the operations at the positions that do not pass the test
 abbrev pub kept : (ℕ → Bool) → List Operation → List Operation
 kept p [] = []
 kept p (o ∷ os) = cond (p 0) (kept (λ i. p (suc i)) os) (o ∷ kept (λ i. p (suc i)) os)

@@ -7,12 +7,12 @@ use Rattle.history_tree.specs.declared.version.Version.{Version}
 use Rattle.history_tree.specs.States.{package_of_version}
 use Rattle.footprint.specs.Interference.{interferes}
 
--- the places from k on of the operations that interfere with the one at i
+-- the positions from k on of the operations that interfere with the one at i
 abbrev pub pairs_with : Meta → ℕ → Operation → ℕ → List Operation → List (ℕ × ℕ)
 pairs_with meta i o k [] = []
 pairs_with meta i o k (p ∷ ps) = cond (interferes meta o p) ((i, k) ∷ pairs_with meta i o (suc k) ps) (pairs_with meta i o (suc k) ps)
 
--- the interfering pairs of one of the first list, whose places count from i, and one of the second
+-- the interfering pairs of one of the first list, whose positions count from i, and one of the second
 abbrev pub pairs_from : Meta → ℕ → List Operation → List Operation → List (ℕ × ℕ)
 pairs_from meta i [] mine = []
 pairs_from meta i (o ∷ os) mine = pairs_with meta i o 0 mine ++ pairs_from meta (suc i) os mine

@@ -1,4 +1,4 @@
--- The three rules of tidy, and where they apply.
+-- The two rules of tidying, and where they apply.
 use Rattle.std.specs.Prelude.{◌≡◌, Bool, List, [], ◌∷◌, ◌++◌, Option, None, Some, cond}
 use Rattle.std.specs.Option.{option_map}
 use Rattle.ecore_meta.specs.Meta.{Meta}
@@ -27,11 +27,11 @@ abbrev pub NoneMet : Operation → List Operation → Type 0
 NoneMet b [] = Unit {0}
 NoneMet b (a ∷ as') = (met a b ≡ None) × NoneMet b as'
 
--- no rule applies at any two places such that no operation between them interferes with the later one
+-- no rule applies at any two positions such that no operation between them interferes with the later one
 abbrev pub NoRule : Meta → List Operation → Type 0
 NoRule meta p = (front mid back : List Operation) (a b : Operation) → p ≡ front ++ (a ∷ (mid ++ (b ∷ back))) → Free meta b mid → met a b ≡ None
 
--- q is p after one rule, at the least place of a later operation b and then the greatest place of an earlier a
+-- q is p after one rule, at the least position of a later operation b and then the greatest position of an earlier a
 pub record OneRule (meta : Meta) (p q : List Operation) : Type 0 where
   pub front : List Operation
   pub a : Operation

@@ -47,7 +47,7 @@ tidy meta p = settle meta (length (split p)) (split p)
 unfoldable pub is_tidy : Meta → List Operation → Bool
 is_tidy meta p = package_eq (tidy meta p) p
 
--- each simple operation has one step, and no rule applies at any two places
+-- each simple operation has one step, and no rule applies at any two positions
 pub record Normal (meta : Meta) (p : List Operation) : Type 0 where
   pub alone : EachAlone p
   pub settled : NoRule meta p

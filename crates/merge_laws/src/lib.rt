@@ -1,6 +1,6 @@
 //! What it means to tidy a package, to group what interferes in two packages, and to merge them by choices; and what an update, a
 //! merge and a revert lead to, for all choices. Equal steps, and the one step that does what two do, are the ground of tidying.
-//! Buckets are the classes of the least equivalence that holds all interfering pairs, where they have operations of both packages.
+//! Buckets are the components of interfering operations that have operations of both packages.
 #![tactic(auto)]
 
 mod bucket_laws;

@@ -28,7 +28,7 @@ pub struct Plan {
     pub buckets: Buckets,
 }
 
-/// The places in the buckets of two packages have numbers of 64 bits, counted from 1 too. It does nothing.
+/// The positions in the buckets of two packages have numbers of 64 bits, counted from 1 too. It does nothing.
 fn recall_numbers(_meta: &Metamodel, theirs: &Package, mine: &Package, _buckets: &Buckets)
     requires same { _buckets.now.rows ≡ buckets_of _meta.now theirs.now mine.now }
     ensures places { All (λ b. All (λ i. i < 2 ^ 64 - 1) b.theirs × All (λ i. i < 2 ^ 64 - 1) b.mine) _buckets.now.rows }

@@ -11,7 +11,7 @@ use Rattle.model_documents.specs.Walk.{walked}
 use Rattle.model_documents.specs.References.{given_by}
 use Rattle.model_documents.specs.Completed.{rows_by}
 
--- the references of the elements are looked up, and then merged
+-- the references of the elements are looked up, and then the lists are completed
 abbrev pub resolved : Meta → List ElementDraft → Read (List DocRow)
 resolved meta drafts = «then» (given_by meta drafts) (λ given. rows_by meta given drafts)
 

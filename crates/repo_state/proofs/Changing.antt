@@ -26,7 +26,7 @@ use Rattle.model_state.specs.State as models
 pub below_is : (s : State) (ws : List (Option Kept)) (i : ℕ) → map plain_any ws ≡ s.workspaces → i < length s.workspaces → i < length ws
 below_is s ws i is below = subst (λ (n : ℕ). i < n) (sym (ap (λ (l : List (Option Workspace)). length l) is) ∙ length-map ws plain_any) below
 
--- what is at a place that is there
+-- what is at a position that is there
 pub slice_there : (ws : List (Option Kept)) (i : ℕ) (d : Option Kept) → i < length ws → slice_get ws i ≡ Some (get_or ws i d)
 slice_there [] i d below = absurd (omega arith)
 slice_there (w ∷ ws) zero d below = refl
@@ -38,7 +38,7 @@ pub looked_up : (ws : List (Option Kept)) (i : ℕ) (r : Option (Bor (Option Kep
 looked_up ws i None is found = sym (slice_get_past ws i (ltb-false i (length ws) (sym is)))
 looked_up ws i (Some x) is found = ap Some found ∙ sym (slice_there ws i x.now (ltb-true i (length ws) (sym is)))
 
--- the workspace of a number, found at its place
+-- the workspace of a number, found at its position
 pub numbered_is : (s : State) (ws : List (Option Kept)) (k : ℕ) → map plain_any ws ≡ s.workspaces → 1 ≤ k
     → there (option_map plain_any (slice_get ws (k - 1))) ≡ workspace_of s k
 numbered_is s ws zero is least = absurd (omega arith)
@@ -50,7 +50,7 @@ pub found_is : (s : State) (ws : List (Option Kept)) (k : ℕ) (w : Option Kept)
     → slice_get ws (k - 1) ≡ Some w → plain_any w ≡ workspace_of s k
 found_is s ws k w is least found = ap (λ (o : Option (Option Kept)). there (option_map plain_any o)) (sym found) ∙ numbered_is s ws k is least
 
--- the same, by its place
+-- the same, by its position
 pub at_is : (s : State) (ws : List (Option Kept)) (k i : ℕ) (old d : Option Kept) → map plain_any ws ≡ s.workspaces → k ≡ suc i
     → i < length s.workspaces → old ≡ get_or ws i d → workspace_of s k ≡ plain_any old
 at_is s ws k i old d is numbered below old_is =

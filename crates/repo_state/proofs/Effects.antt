@@ -58,7 +58,7 @@ pub history_is : (b : Option Begun) (begun : Begun) (l : List (Option Workspace)
 history_is b begun l events end s view is = sym (ap history_in view) ∙ ap history_of is
 
 -- ---- one workspace
--- the workspace of a number, at its place in the list of a repository
+-- the workspace of a number, at its position in the list of a repository
 pub record Placed (b : Option Begun) (ws : List (Option Kept)) (events end : ℕ) (s : State) (k i : ℕ) (d : Option Kept) (w : Kept) : Type 0 where
   pub view : held b (map plain_any ws) events end ≡ s
   pub number : k ≡ suc i
@@ -70,7 +70,7 @@ pub placed : (b : Option Begun) (ws : List (Option Kept)) (events end : ℕ) (s 
     → Placed b ws events end s k i d w
 placed b ws events end s k i old d w view number below old_is some = record { view = view; number = number; below = below; at = sym old_is ∙ some }
 
--- the workspace at a place is set to what the change makes of it
+-- the workspace at a position is set to what the change makes of it
 pub set_is : (change : Option Workspace → Option Workspace) (ws : List (Option Kept)) (i : ℕ) (d new : Option Kept) → i < length ws
     → plain_any new ≡ change (plain_any (get_or ws i d)) → map plain_any (set ws i new) ≡ changed_at change (map plain_any ws) i
 set_is change [] i d new below is = absurd (omega arith)
@@ -87,7 +87,7 @@ number_set change b ws events end s k i d new view number below is =
     ∙ ap (λ (t : State). record t { workspaces = changed_at change t.workspaces i }) view
     ∙ ap (λ (n : ℕ). record s { workspaces = changed_by_number change s.workspaces n }) (sym number)
 
--- what is at a place that is there, whatever would stand for none
+-- what is at a position that is there, whatever would stand for none
 any_default : (ws : List (Option Kept)) (i : ℕ) (d e : Option Kept) → i < length ws → get_or ws i d ≡ get_or ws i e
 any_default [] i d e below = absurd (omega arith)
 any_default (w ∷ ws) zero d e below = refl
@@ -111,7 +111,7 @@ module _ {b : Option Begun} {ws : List (Option Kept)} {events end : ℕ} {s : St
   pub placed_there : workspace_of s k ≡ Some (plain_of w)
   placed_there = at_is s ws k i (Some w) d (ap (λ (s : State). s.workspaces) p.view) p.number p.below (sym p.at)
 
-  -- it has its place among those used last where it kept its model
+  -- it has its position among those used last where it kept its model
   pub keeper_before : (places : List ℕ) → KeepersAmong places ws → keeps_model (Some w) ≡ true → Contains places i
   keeper_before places all keeps = all i (ap keeps_model (any_default ws i None d within ∙ p.at) ∙ keeps)
 

@@ -1,4 +1,4 @@
--- Which workspaces keep their models, once one is set or added, or a place is taken out of those used last.
+-- Which workspaces keep their models, once one is set or added, or a position is taken out of those used last.
 use Rattle.std.proofs.Common.{◌≡◌, ◌≢◌, ◌⊎◌, inl, inr, ⊎_elim, ℕ, zero, suc, ◌≤◌, Bool, true, false, is_some, List, [], ◌∷◌, ◌++◌, length, map}
 use Rattle.std.proofs.Common.{Option, Some, None}
 use Rattle.std.proofs.Common.{IfSome, sym, ◌∙◌, ap, subst, refl, arith}
@@ -25,7 +25,7 @@ none_keeps w P none keeps = let is : false ≡ true = ap (λ (o : Option models.
 pub same_keeps : (w new : Kept) → new.model ≡ w.model → keeps_model (Some new) ≡ true → keeps_model (Some w) ≡ true
 same_keeps w new same keeps = ap (λ (o : Option models.State). is_some o) (sym same) ∙ keeps
 
--- it keeps a model only if its place is there
+-- it keeps a model only if its position is there
 pub kept_if : (places : List ℕ) (i : ℕ) (o : Option models.State) (w : Kept) → IfSome o (λ m. Contains places i) → w.model ≡ o
     → keeps_model (Some w) ≡ true → Contains places i
 kept_if places i None w has is keeps = none_keeps w (Contains places i) is keeps
@@ -47,17 +47,17 @@ set_split (w ∷ ws) (suc i) x zero keeps = inr (λ is. omega (arith, is), keeps
 set_split (w ∷ ws) (suc i) x (suc at) keeps =
     ⊎_elim (λ here. inl (ap suc here.0, here.1)) (λ other. inr (λ is. other.0 (omega (arith, is)), other.1)) (set_split ws i x at keeps)
 
--- where one is set, its place is there if it keeps a model
+-- where one is set, its position is there if it keeps a model
 pub keepers_set : (places : List ℕ) (ws : List (Option Kept)) (i : ℕ) (x : Option Kept) → (keeps_model x ≡ true → Contains places i)
     → KeepersAmong places ws → KeepersAmong places (set ws i x)
 keepers_set places ws i x now all at keeps =
     ⊎_elim (λ here. subst (Contains places) (sym here.0) (now here.1)) (λ other. all at other.1) (set_split ws i x at keeps)
 
--- where the places are the same
+-- where the positions are the same
 pub keepers_same : (old new : List ℕ) (ws : List (Option Kept)) → new ≡ old → KeepersAmong old ws → KeepersAmong new ws
 keepers_same old new ws is all = subst (λ (places : List ℕ). KeepersAmong places ws) (sym is) all
 
--- where one isn't there any more, its place may go
+-- where one isn't there any more, its position may go
 pub keepers_gone : (old new : List ℕ) (ws : List (Option Kept)) (i : ℕ) → ((n : ℕ) → Contains old n → Contains new n ⊎ (Some i ≡ Some n))
     → KeepersAmong old ws → KeepersAmong new (set ws i None)
 keepers_gone old new ws i stays all at keeps =
@@ -79,8 +79,8 @@ keepers_pushed places ws new w true none is all =
     (λ at keeps. ⊎_elim (λ here. none_keeps w (Contains places at) none here) (λ before. all at before) (more ws w at keeps))
 keepers_pushed places ws new w false none is all = subst (KeepersAmong places) (sym is) all
 
--- ---- a place that isn't used goes
--- after that the places of all that keep a model are there
+-- ---- a position that isn't used goes
+-- after that the positions of all that keep a model are there
 pub keepers_out : (old new : List ℕ) (out : Option ℕ) (before after : List (Option Kept)) → ((n : ℕ) → Contains old n → Contains new n ⊎ (out ≡ Some n))
     → ((at : ℕ) → keeps_model (get_or after at None) ≡ true → (keeps_model (get_or before at None) ≡ true) × (out ≢ Some at))
     → KeepersAmong old before → KeepersAmong new after
@@ -92,7 +92,7 @@ all_fit None before after fits all = tt
 all_fit (Some begun) before after fits all = fits begun.meta begun.history.history all
 
 -- ---- all of them go
--- where only places past the last one keep a model, none is kept
+-- where only positions past the last one keep a model, none is kept
 pub none_left : (old new : List (Option Kept)) (n : ℕ) → map plain_any new ≡ map plain_any old → length old ≤ n
     → ((i : ℕ) → keeps_model (get_or new i None) ≡ true → n ≤ i) → (i : ℕ) → keeps_model (get_or new i None) ≡ false
 none_left old new n same past left i = by (keeps_model (get_or new i None)) refl
@@ -104,6 +104,6 @@ none_left old new n same past left i = by (keeps_model (get_or new i None)) refl
     by false is = refl
     by true is = sym is ∙ ap keeps_model (get_or_past new i None (omega (arith, left i is, as_many, past)))
 
--- those that keep one, of which there are none, stand at any places
+-- those that keep one, of which there are none, stand at any positions
 pub none_among : (places : List ℕ) (ws : List (Option Kept)) → ((at : ℕ) → keeps_model (get_or ws at None) ≡ false) → KeepersAmong places ws
 none_among places ws none at keeps = let is : false ≡ true = sym (none at) ∙ keeps in absurd cc

@@ -1,4 +1,4 @@
--- Which places have a size, once sizes are taken out, added or moved.
+-- Which positions have a size, once sizes are taken out, added or moved.
 use Rattle.std.proofs.Common.{◌≡◌, ◌⊎◌, inl, inr, ⊎_elim, ℕ, zero, suc, ◌<◌, Bool, true, false, cond, List, [], ◌∷◌, ◌++◌, length, not, nat_eq}
 use Rattle.std.proofs.Common.{refl, sym, ◌∙◌, ap, subst, arith}
 use Rattle.std.specs.List.{Contains, filter, remove}
@@ -9,7 +9,7 @@ use Rattle.recently_used.proofs.Used.{one}
 use Rattle.repo_state.specs.declared.sizes.Size.{Size}
 use Rattle.repo_state.specs.Sizes.{sized}
 
--- the first place, or one after it
+-- the first position, or one after it
 first_or : (x i : ℕ) (l : List ℕ) → Contains (x ∷ l) i → (x ≡ i) ⊎ Contains l i
 first_or x i l has = ⊎_elim (λ here. inl (one x i here)) (λ there. inr there) (Contains-append_cases (x ∷ []) l i has)
 
@@ -17,7 +17,7 @@ or_first : (x i : ℕ) (l : List ℕ) → (x ≡ i) ⊎ Contains l i → Contain
 or_first x i l (inl is) = (0, omega arith, is)
 or_first x i l (inr there) = Contains-append_right (x ∷ []) l i there
 
--- each place but the one whose sizes go has a size still
+-- each position but the one whose sizes go has a size still
 pub but_one : (at i : ℕ) (l : List Size) → Contains (sized l) i → Contains (sized (filter (λ s. not (nat_eq s.at at)) l)) i ⊎ (at ≡ i)
 but_one at i [] has = absurd (omega (arith, has.1))
 but_one at i (s ∷ l) has = by (nat_eq s.at at) refl (λ there. but_one at i l there) (first_or s.at i (sized l) has)
@@ -50,7 +50,7 @@ moved (x ∷ l) (suc k) i s below is has =
     or_first x.at i (sized (remove l k ++ s ∷ []))
     (⊎_elim (λ here. inl here) (λ there. inr (moved l k i s (omega arith) is there)) (first_or x.at i (sized l) has))
 
--- with a size set to another one of the same place
+-- with a size set to another one of the same position
 pub set_sized : (l : List Size) (k : ℕ) (s d : Size) → s.at ≡ (get_or l k d).at → sized (set l k s) ≡ sized l
 set_sized [] k s d is = refl
 set_sized (x ∷ l) zero s d is = ap (λ (n : ℕ). n ∷ sized l) is

@@ -65,6 +65,6 @@ abbrev pub keeps_model : Option Workspace → Bool
 keeps_model None = false
 keeps_model (Some w) = is_some w.model
 
--- each workspace that keeps its model stands at one of these places
+-- each workspace that keeps its model stands at one of these positions
 abbrev pub KeepersAmong : List ℕ → List (Option Workspace) → Type 0
 KeepersAmong places workspaces = (at : ℕ) → keeps_model (get_or workspaces at None) ≡ true → Contains places at

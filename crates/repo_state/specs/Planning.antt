@@ -11,7 +11,7 @@ use Rattle.merge_laws.specs.Plans.{theirs_of_update}
 use Rattle.plain_repository.specs.State.{State, Workspace, folded, workspace_of}
 use Rattle.plain_repository.specs.Merging.{update_buckets, merge_buckets, merge_theirs, merge_mine}
 
--- the places of operations have numbers of 64 bits, counted from 1 too
+-- the positions of operations have numbers of 64 bits, counted from 1 too
 abbrev pub AllHaveNumbers : List Bucket → Type 0
 AllHaveNumbers rows = All (λ b. All (λ i. i < 2 ^ 64 - 1) b.theirs × All (λ i. i < 2 ^ 64 - 1) b.mine) rows
 

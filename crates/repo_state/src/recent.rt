@@ -23,7 +23,7 @@ fn drop_model(place: &mut Option<Workspace>)
     }
 }
 
-/// The workspace at that place, where there is one, doesn't keep its model any more.
+/// The workspace at that position, where there is one, doesn't keep its model any more.
 fn forget(workspaces: &mut Vec<Option<Workspace>>, out: Option<usize>)
     ensures same { map plain_any workspaces.new.items ≡ map plain_any workspaces.old.items }
     ensures fits { (meta : Meta) (h : History) → All (FitsAny meta h) workspaces.old.items → All (FitsAny meta h) workspaces.new.items }
@@ -38,7 +38,7 @@ fn forget(workspaces: &mut Vec<Option<Workspace>>, out: Option<usize>)
 }
 
 /// As long as the models that are kept have more elements together than that, the one used longest ago is let go, and its
-/// size with it. That of the workspace at this place stays. So a workspace whose size goes has no model afterwards.
+/// size with it. That of the workspace at this position stays. So a workspace whose size goes has no model afterwards.
 fn let_go(workspaces: &mut Vec<Option<Workspace>>, sizes: &mut Sizes, at: usize, most: usize)
     requires { most < usize.MAX }
     ensures same { map plain_any workspaces.new.items ≡ map plain_any workspaces.old.items }
@@ -63,7 +63,7 @@ fn forget_all(workspaces: &mut Vec<Option<Workspace>>)
     }
 }
 
-/// The model, where the place is among those of the workspaces that used theirs last, and it has a size.
+/// The model, where the position is among those of the workspaces that used theirs last, and it has a size.
 pub(crate) fn to_keep(recent: &Recent, sizes: &Sizes, at: usize, model: Working) -> Option<Working>
     ensures same { IfSome result (λ m. m ≡ model) }
     ensures among { IfSome result (λ _. Contains recent.now at) }
@@ -76,7 +76,7 @@ pub(crate) fn to_keep(recent: &Recent, sizes: &Sizes, at: usize, model: Working)
 }
 
 impl Repo {
-    /// The model of the workspace at a place is used now. Where one model more would be kept than may be, the workspace
+    /// The model of the workspace at a position is used now. Where one model more would be kept than may be, the workspace
     /// that used its own least recently doesn't keep it. It is made anew when it is wanted again.
     pub(crate) fn touch(&mut self, at: usize) -> Result<(), AllocError>
         ensures same { self.new ≡ self.old }
@@ -87,7 +87,7 @@ impl Repo {
         Ok(())
     }
 
-    /// The model of the workspace at a place is used now, and is that. As long as the models that are kept are too large
+    /// The model of the workspace at a position is used now, and is that. As long as the models that are kept are too large
     /// together, the one used longest ago is let go, but not this one. How many elements a model has that is made anew isn't
     /// known before. So it comes beside the others until then, and what events add comes beside them until the next use.
     pub(crate) fn weigh(
@@ -103,7 +103,7 @@ impl Repo {
         Ok(())
     }
 
-    /// The models of all workspaces but the one at this place are let go, so that their memory is free.
+    /// The models of all workspaces but the one at this position are let go, so that their memory is free.
     pub(crate) fn let_others_go(&mut self, at: usize)
         ensures same { self.new ≡ self.old }
     {

@@ -36,7 +36,7 @@ pub struct Begun {
 }
 
 /// The metamodel and the history once there are such, the workspaces, and how much of the journal is used. Contracts see
-/// all but the models that workspaces keep, and what is known of these: the places of the workspaces that used theirs
+/// all but the models that workspaces keep, and what is known of these: the positions of the workspaces that used theirs
 /// last, 64 at most, and the sizes. Each workspace that keeps its model is among those, and its model has a size.
 #[derive(Drop)]
 pub struct Repo {
@@ -172,7 +172,7 @@ impl Repo {
         self.end = end;
     }
 
-    /// The place of the workspace of that number.
+    /// The position of the workspace of that number.
     pub(crate) fn place_of(&self, ws: u32) -> Option<usize>
         ensures there { IfSome result (λ i. (ws ≡ suc i) × (i < length self.now.workspaces)) }
         ensures none { IfNone result (workspace_of self.now ws ≡ None) }
@@ -211,7 +211,7 @@ impl Repo {
         self.model_at(alloc, cache, pool, ws, at)
     }
 
-    /// The same, at its place and without a second try.
+    /// The same, at its position and without a second try.
     #[tactic(auto, using(version_states::proofs::Caching::uses_none))]
     fn model_at(
         &mut self,

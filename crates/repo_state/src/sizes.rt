@@ -12,7 +12,7 @@ use working_model::Working;
 /// some 550 bytes an element such models take half a GiB.
 pub(crate) const MOST_ELEMENTS: usize = 1_000_000;
 
-/// The size of the model of the workspace at a place: how many elements it had when they were counted, and how many were
+/// The size of the model of the workspace at a position: how many elements it had when they were counted, and how many were
 /// added to it since. Elements are added where an event creates them or brings them back. Those that go aren't taken off.
 /// So the two are together at least the elements that the model has, but where there was no memory to count them: as many as
 /// all models may have together are then taken to be added, and they are counted at the next use.
@@ -41,7 +41,7 @@ fn measure(alloc: Global, at: usize, model: &Working) -> Size
     Size { at, counted, added }
 }
 
-/// Takes out the sizes of the model of the workspace at a place. This takes no memory.
+/// Takes out the sizes of the model of the workspace at a position. This takes no memory.
 fn without(sizes: &mut Vec<Size>, at: usize)
     ensures items { sizes.new.items ≡ filter (λ s. not (nat_eq s.at at)) sizes.old.items }
     ensures len { vec_len sizes.new ≤ vec_len sizes.old }
@@ -124,14 +124,14 @@ impl Sizes {
         total
     }
 
-    /// The size of the model of the workspace at a place, where it has one.
+    /// The size of the model of the workspace at a position, where it has one.
     fn find(&self, at: usize) -> Option<Size>
         ensures { IfSome result (λ s. s.at ≡ at) }
     {
         self.sizes.iter().find(|size| size.at == at).copied()
     }
 
-    /// Whether the model of the workspace at a place has a size.
+    /// Whether the model of the workspace at a position has a size.
     pub(crate) fn has(&self, at: usize) -> bool
         ensures { IsTrue result → Contains (sized self.now.sizes.items) at }
     {
@@ -143,7 +143,7 @@ impl Sizes {
         false
     }
 
-    /// The workspace at the place, where one is named, keeps no model any more.
+    /// The workspace at the position, where one is named, keeps no model any more.
     pub(crate) fn forget(&mut self, out: Option<usize>)
         ensures stays { (i : ℕ) → Contains (sized self.old.sizes.items) i → Contains (sized self.new.sizes.items) i ⊎ (out ≡ Some i) }
     {
@@ -153,7 +153,7 @@ impl Sizes {
         without(&mut self.sizes, at);
     }
 
-    /// The size of the model of the workspace at a place, where it has one, is the last, as of the model used last.
+    /// The size of the model of the workspace at a position, where it has one, is the last, as of the model used last.
     pub(crate) fn put_last(&mut self, at: usize)
         ensures stays { (i : ℕ) → Contains (sized self.old.sizes.items) i → Contains (sized self.new.sizes.items) i }
     {
@@ -164,7 +164,7 @@ impl Sizes {
         self.sizes.push_reserved(size);
     }
 
-    /// The model of the workspace at a place is used now. Its elements are counted where it has no size, as one that was
+    /// The model of the workspace at a position is used now. Its elements are counted where it has no size, as one that was
     /// made anew, or an old one. This costs their number, and so no more than to make the model, or to add to it what was
     /// added since it was counted.
     pub(crate) fn note(
@@ -183,7 +183,7 @@ impl Sizes {
         Ok(())
     }
 
-    /// The size of the model of the workspace at a place: the one that it has, where that isn't old.
+    /// The size of the model of the workspace at a position: the one that it has, where that isn't old.
     fn size_of(&self, alloc: Global, at: usize, model: &Working) -> Size
         ensures { result.at ≡ at }
     {
@@ -193,7 +193,7 @@ impl Sizes {
         }
     }
 
-    /// So many elements more are added to the model of the workspace at a place, or fewer.
+    /// So many elements more are added to the model of the workspace at a position, or fewer.
     pub(crate) fn grow(&mut self, at: usize, added: usize)
         ensures { sized self.new.sizes.items ≡ sized self.old.sizes.items }
     {
@@ -205,7 +205,7 @@ impl Sizes {
     }
 
     /// Takes out the size of the model used longest ago, where all together have more elements than that, and it is not of
-    /// the workspace at this place. Gives the place of its workspace.
+    /// the workspace at this position. Gives the position of its workspace.
     pub(crate) fn take_out(&mut self, at: usize, most: usize) -> Option<usize>
         requires { most < usize.MAX }
         ensures room { IfNone result (HasRoom self.new.sizes.items at most) }

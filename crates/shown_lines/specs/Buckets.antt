@@ -6,19 +6,19 @@ use Rattle.footprint.specs.declared.bucket.Buckets.{Buckets}
 use Rattle.shown_lines.specs.Lines.{after_spaces}
 use Rattle.shown_lines.specs.Versions.{listed}
 
--- a place of an operation whose number, one more, has 64 bits
+-- a position of an operation whose number, one more, has 64 bits
 abbrev pub HasNumber : ℕ → Type 0
 HasNumber place = place < 2 ^ 64 - 1
 
--- a bucket of such places
+-- a bucket of such positions
 abbrev pub HasNumbers : Bucket → Type 0
 HasNumbers b = All HasNumber b.theirs × All HasNumber b.mine
 
--- buckets of such places
+-- buckets of such positions
 abbrev pub HaveNumbers : Buckets → Type 0
 HaveNumbers buckets = All HasNumbers buckets.rows
 
--- the numbers of operations, from 1, by their places, from 0
+-- the numbers of operations, from 1, by their positions, from 0
 abbrev pub numbers : List ℕ → List (List ℕ)
 numbers places = map (λ place. decimal (place + 1)) places
 

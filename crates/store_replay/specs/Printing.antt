@@ -16,7 +16,7 @@ use Rattle.plain_repository.specs.Events.{play, playable}
 abbrev pub can_print : State → Event → Bool
 can_print s event = not (is_too_long event) && not (is_not_printable s.history event)
 
--- why it can't, with the event's place from 1
+-- why it can't, with the event's number, from 1
 abbrev pub refusal_of : State → Event → Refusal
 refusal_of s event = if is_too_long event then TooLong (s.events + 1) else NotPrintable (s.events + 1)
 

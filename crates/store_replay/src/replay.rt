@@ -15,7 +15,7 @@ use store_session::{Opening, Status, status_of};
 /// the next event is read. The input is not read, and the file stays as it was but for the sync of an opening.
 ///
 /// It ends `Refused` at the first event that a script can't hold, after the line `no 42 TooLong N` or `no 43 NotPrintable N`, where N is
-/// the event's place from 1. It ends `Damaged` at the gate of a record that is no event, after the lines of those before it.
+/// the event's number, from 1. It ends `Damaged` at the gate of a record that is no event, after the lines of those before it.
 pub fn replay_store<H: Host>(alloc: Global, host: &mut H) -> Status
     // What is printed and kept at each moment, and how it ends, whatever the file holds.
     ensures replay { IsReplay (H.told host.old) (H.told host.new) result }

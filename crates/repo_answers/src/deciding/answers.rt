@@ -129,7 +129,7 @@ fn form_of(alloc: Global, repo: &Repo, event: &Event) -> Result<Vec<u8>, Option<
     if repo.is_full() {
         return Err(Some(Refusal::HistoryFull));
     }
-    // Such an event has a text of 2^32 bytes, a list of 2^32 items, or a place past them.
+    // Such an event has a text of 2^32 bytes, a list of 2^32 items, or an index past them.
     if !has_encoding(event) {
         return Err(Some(Refusal::TooLarge));
     }

@@ -1,4 +1,4 @@
--- an operation stands at the place to which alone a rule may apply
+-- an operation stands at the position to which alone a rule may apply
 use Rattle.std.proofs.Common.{◌≡◌, ◌+◌, length}
 use Rattle.footprint.specs.Prints.{shown, printed}
 use Rattle.cell_index.specs.Standing.{ListsStanding}

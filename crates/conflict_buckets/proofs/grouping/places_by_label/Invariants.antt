@@ -1,4 +1,4 @@
--- the places so far
+-- the positions so far
 use Rattle.std.proofs.Common.{◌≡◌, ◌<◌, ℕ, length, take}
 use Rattle.footprint.specs.Buckets.{places}
 use Rattle.cell_index.specs.Near.{list_at}

@@ -1,4 +1,4 @@
--- all before the place are reached, and what they reach
+-- all before the position are reached, and what they reach
 use Rattle.std.proofs.Common.{[], length}
 use Rattle.cell_index.specs.Draining.{ListsUnflagged}
 use Rattle.conflict_buckets.specs.Spread.{AreSpread}

@@ -1,4 +1,4 @@
--- the places so far
+-- the positions so far
 use Rattle.std.proofs.Common.{◌≡◌, ◌<◌, ℕ, length, get_or}
 use Rattle.conflict_buckets.proofs.labelling.places_below.Given as goal
 

@@ -1,4 +1,4 @@
--- by one place more
+-- by one position more
 use Rattle.std.proofs.Common.{sym, ap, ◌∙◌, ◌++◌, ◌∷◌, []}
 use Rattle.footprint.proofs.Sorted.{next_place}
 use Rattle.footprint.proofs.sorting.places.Goals as goal

@@ -1,4 +1,4 @@
--- the places so far
+-- the positions so far
 use Rattle.std.proofs.Common.{◌≡◌}
 use Rattle.std.specs.List.{range_with_len}
 use Rattle.footprint.proofs.sorting.places.Given as goal

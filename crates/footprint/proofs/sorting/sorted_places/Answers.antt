@@ -1,4 +1,4 @@
--- the sort leaves all places, by their cells
+-- the sort leaves all positions, by their cells
 use Rattle.std.specs.Ordering.{is_lt}
 use Rattle.std.proofs.Common.{rules}
 use Rattle.std.proofs.lemmas.Fn.{always_returns_same}

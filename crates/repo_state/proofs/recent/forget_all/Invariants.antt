@@ -1,4 +1,4 @@
--- what was let go so far changes nothing else, and no place that was passed keeps a model
+-- what was let go so far changes nothing else, and no position that was passed keeps a model
 use Rattle.std.proofs.Common.{◌≡◌, ◌≤◌, ℕ, true, map, None, get_or}
 use Rattle.std.specs.Prelude.{All}
 use Rattle.ecore_meta.specs.Meta.{Meta}

@@ -42,7 +42,7 @@ branch-begun-requires-clause-new c =
     branch_new s begun.meta begun.history.history c.args.ws c.args.name is_begun hist c.requires.could
 
 -- ---- after the call
--- the workspace at its place
+-- the workspace at its position
 place : (c : After-branch-begun) → Placed c.self.inside.begun c.self.inside.workspaces.items c.self.inside.events c.self.inside.end c.args.self.now
     c.args.ws c.in-Some.at c.index_mut.result.now c.in-Some-index_mut.workspace
 place c =

@@ -55,7 +55,7 @@ commit-requires-clause-pending c =
     (placed_there p)).pending
 
 -- ---- after the call
--- the workspace at its place
+-- the workspace at its position
 place : (c : After-commit) → Placed c.self.inside.begun c.self.inside.workspaces.items c.self.inside.events c.self.inside.end c.args.self.now
     c.args.ws c.in-Some.at c.index_mut.result.now c.in-Some-index_mut.workspace
 place c =
