@@ -50,21 +50,21 @@ module _ (bs piece after : List ℕ) (cut : IsCut bs piece after) where
       (IsCharBoundary-after_ascii bs (position_or_len is_comma bs) text cut.within (omega (arith, comma))))
 
 -- ---- what is read
-module _ (text : List ℕ) (earlier : List Grant) (place : ℕ) (rest piece : List ℕ) (ps : List (List ℕ)) (o : Option Grant)
-    (read : grants_of text ≡ grants_from earlier place (pieces rest)) (cut : pieces rest ≡ piece ∷ ps) (new : o ≡ if_new earlier (grant_of piece)) where
+module _ (text : List ℕ) (earlier : List Grant) (offset : ℕ) (rest piece : List ℕ) (ps : List (List ℕ)) (o : Option Grant)
+    (read : grants_of text ≡ grants_from earlier offset (pieces rest)) (cut : pieces rest ≡ piece ∷ ps) (new : o ≡ if_new earlier (grant_of piece)) where
   -- a piece that doesn't fit ends the reading
-  pub stops : o ≡ None → grants_of text ≡ Err place
-  stops none = read ∙ ap (λ l. grants_from earlier place l) cut ∙ fails (sym new ∙ none)
+  pub stops : o ≡ None → grants_of text ≡ Err offset
+  stops none = read ∙ ap (λ l. grants_from earlier offset l) cut ∙ fails (sym new ∙ none)
     where
-      fails : if_new earlier (grant_of piece) ≡ None → grants_from earlier place (piece ∷ ps) ≡ Err place
-      fails is = ap (λ o. with_grant o place (λ grant. grants_from (earlier ++ grant ∷ []) (place + length piece + 1) ps)) is
+      fails : if_new earlier (grant_of piece) ≡ None → grants_from earlier offset (piece ∷ ps) ≡ Err offset
+      fails is = ap (λ o. with_grant o offset (λ grant. grants_from (earlier ++ grant ∷ []) (offset + length piece + 1) ps)) is
 
   -- one that does is followed by the others
   pub goes_on : (grant : Grant) (more : List Grant) → o ≡ Some grant → more ≡ earlier ++ grant ∷ []
-      → grants_of text ≡ grants_from more (place + length piece + 1) ps
+      → grants_of text ≡ grants_from more (offset + length piece + 1) ps
   goes_on grant more some pushed =
-      read ∙ ap (λ l. grants_from earlier place l) cut ∙ passes (sym new ∙ some) ∙ ap (λ gs. grants_from gs (place + length piece + 1) ps) (sym pushed)
+      read ∙ ap (λ l. grants_from earlier offset l) cut ∙ passes (sym new ∙ some) ∙ ap (λ gs. grants_from gs (offset + length piece + 1) ps) (sym pushed)
     where
       passes : if_new earlier (grant_of piece) ≡ Some grant
-          → grants_from earlier place (piece ∷ ps) ≡ grants_from (earlier ++ grant ∷ []) (place + length piece + 1) ps
-      passes is = ap (λ o. with_grant o place (λ grant. grants_from (earlier ++ grant ∷ []) (place + length piece + 1) ps)) is
+          → grants_from earlier offset (piece ∷ ps) ≡ grants_from (earlier ++ grant ∷ []) (offset + length piece + 1) ps
+      passes is = ap (λ o. with_grant o offset (λ grant. grants_from (earlier ++ grant ∷ []) (offset + length piece + 1) ps)) is

@@ -116,14 +116,14 @@ not_true : (b : Bool) → b ≢ true → b ≡ false
 not_true true is = absurd (is refl)
 not_true false is = refl
 
-all_read : (earlier : List Grant) (place : ℕ) (grants : List Grant) → AreGrants earlier grants
-    → grants_from earlier place (map spelled grants) ≡ Ok (earlier ++ grants)
-all_read earlier place [] are = ap Ok (sym (append-nil earlier))
-all_read earlier place (grant ∷ grants) are =
-    let further : Grant → Result (List Grant) ℕ = λ g. grants_from (earlier ++ g ∷ []) (place + length (spelled grant) + 1) (map spelled grants) in
-    ap (λ o. with_grant (if_new earlier o) place further) (grant_read grant are.0 are.1)
-    ∙ ap (λ t. with_grant (cond t None (Some grant)) place further) (not_true (has_user earlier grant.user) are.2)
-    ∙ all_read (earlier ++ grant ∷ []) (place + length (spelled grant) + 1) grants are.3
+all_read : (earlier : List Grant) (offset : ℕ) (grants : List Grant) → AreGrants earlier grants
+    → grants_from earlier offset (map spelled grants) ≡ Ok (earlier ++ grants)
+all_read earlier offset [] are = ap Ok (sym (append-nil earlier))
+all_read earlier offset (grant ∷ grants) are =
+    let further : Grant → Result (List Grant) ℕ = λ g. grants_from (earlier ++ g ∷ []) (offset + length (spelled grant) + 1) (map spelled grants) in
+    ap (λ o. with_grant (if_new earlier o) offset further) (grant_read grant are.0 are.1)
+    ∙ ap (λ t. with_grant (cond t None (Some grant)) offset further) (not_true (has_user earlier grant.user) are.2)
+    ∙ all_read (earlier ++ grant ∷ []) (offset + length (spelled grant) + 1) grants are.3
     ∙ ap Ok (append_assoc earlier (grant ∷ []) grants)
 
 pub policies_read : (grants : List Grant) → 0 < length grants → AreGrants [] grants → grants_of (joined (map spelled grants)) ≡ Ok grants
@@ -214,19 +214,21 @@ record IsBack (earlier grants : List Grant) (ps : List (List ℕ)) : Type 0 wher
   words : ps ≡ map spelled new
   are : AreGrants earlier new
 
-all_back : (earlier : List Grant) (place : ℕ) (ps : List (List ℕ)) (grants : List Grant) → grants_from earlier place ps ≡ Ok grants → IsBack earlier grants ps
-all_back earlier place [] grants is = let same : earlier ≡ grants = cc in record { new = []; all = sym same ∙ sym (append-nil earlier); words = refl; are = tt }
-all_back earlier place (piece ∷ ps) grants is = by (grant_of piece) refl is (λ g. all_back (earlier ++ g ∷ []) (place + length piece + 1) ps grants)
+all_back : (earlier : List Grant) (offset : ℕ) (ps : List (List ℕ)) (grants : List Grant) → grants_from earlier offset ps ≡ Ok grants → IsBack earlier grants ps
+all_back earlier offset [] grants is =
+    let same : earlier ≡ grants = cc in
+    record { new = []; all = sym same ∙ sym (append-nil earlier); words = refl; are = tt }
+all_back earlier offset (piece ∷ ps) grants is = by (grant_of piece) refl is (λ g. all_back (earlier ++ g ∷ []) (offset + length piece + 1) ps grants)
   where
     by : (o : Option Grant) → grant_of piece ≡ o
-        → with_grant (if_new earlier o) place (λ grant. grants_from (earlier ++ grant ∷ []) (place + length piece + 1) ps) ≡ Ok grants
-        → ((g : Grant) → grants_from (earlier ++ g ∷ []) (place + length piece + 1) ps ≡ Ok grants → IsBack (earlier ++ g ∷ []) grants ps)
+        → with_grant (if_new earlier o) offset (λ grant. grants_from (earlier ++ grant ∷ []) (offset + length piece + 1) ps) ≡ Ok grants
+        → ((g : Grant) → grants_from (earlier ++ g ∷ []) (offset + length piece + 1) ps ≡ Ok grants → IsBack (earlier ++ g ∷ []) grants ps)
         → IsBack earlier grants (piece ∷ ps)
     by None none is further = absurd cc
     by (Some g) some is further = on (has_user earlier g.user) refl is
       where
         on : (b : Bool) → has_user earlier g.user ≡ b
-            → with_grant (cond b None (Some g)) place (λ grant. grants_from (earlier ++ grant ∷ []) (place + length piece + 1) ps) ≡ Ok grants
+            → with_grant (cond b None (Some g)) offset (λ grant. grants_from (earlier ++ grant ∷ []) (offset + length piece + 1) ps) ≡ Ok grants
             → IsBack earlier grants (piece ∷ ps)
         on true has is = absurd cc
         on false has is =

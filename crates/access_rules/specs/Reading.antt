@@ -67,22 +67,22 @@ abbrev pub if_new : List Grant → Option Grant → Option Grant
 if_new earlier None = None
 if_new earlier (Some grant) = if has_user earlier grant.user then None else Some grant
 
--- what comes further with the grant; else the place
+-- what comes further with the grant; else the offset
 abbrev pub with_grant : Option Grant → ℕ → (Grant → Result (List Grant) ℕ) → Result (List Grant) ℕ
-with_grant None place further = Err place
-with_grant (Some grant) place further = further grant
+with_grant None offset further = Err offset
+with_grant (Some grant) offset further = further grant
 
--- the grants of the pieces after those that were read; else the place of the first piece that does not fit
+-- the grants of the pieces after those that were read; else the offset of the first piece that does not fit
 abbrev pub grants_from : List Grant → ℕ → List (List ℕ) → Result (List Grant) ℕ
-grants_from earlier place [] = Ok earlier
-grants_from earlier place (piece ∷ pieces) =
-    with_grant (if_new earlier (grant_of piece)) place (λ grant. grants_from (earlier ++ grant ∷ []) (place + length piece + 1) pieces)
+grants_from earlier offset [] = Ok earlier
+grants_from earlier offset (piece ∷ pieces) =
+    with_grant (if_new earlier (grant_of piece)) offset (λ grant. grants_from (earlier ++ grant ∷ []) (offset + length piece + 1) pieces)
 
--- the grants of a text: one or more, joined by commas, each of another user; else the place of the first that does not fit
+-- the grants of a text: one or more, joined by commas, each of another user; else the offset of the first that does not fit
 abbrev pub grants_of : List ℕ → Result (List Grant) ℕ
 grants_of text = grants_from [] 0 (pieces text)
 
--- a call gave the policy that reading gives, or its place; out of memory says nothing of the text
+-- a call gave the policy that reading gives, or its offset; out of memory says nothing of the text
 abbrev pub GivesPolicy : Result Policy PolicyFault → Result (List Grant) ℕ → Type 0
 GivesPolicy (Ok policy) read = read ≡ Ok policy.grants
 GivesPolicy (Err (BadPolicy at)) read = read ≡ Err at

@@ -5,7 +5,7 @@ use thiserror::Error;
 /// Why a text was not read as a policy.
 #[derive(Clone, Copy, Debug, Error)]
 pub enum PolicyFault {
-    /// The text is no policy. The place is the byte, from 0, where the first grant begins that does not fit, or whose
+    /// The text is no policy. `at` is the offset, from 0, where the first grant begins that does not fit, or whose
     /// user has one already.
     #[error("bad policy at {at}")]
     BadPolicy { at: u32 },

@@ -95,7 +95,7 @@ fn new_grant(
 ///
 /// # Errors
 ///
-/// `BadPolicy` with the place, in bytes from 0, of the first grant that does not fit, or whose user has one already. Else
+/// `BadPolicy` with the offset, from 0, of the first grant that does not fit, or whose user has one already. Else
 /// `Memory`.
 pub fn read_policy(alloc: Global, text: &str) -> Result<Policy, PolicyFault>
     requires short { length text.now < 2 ^ 32 }
@@ -104,17 +104,17 @@ pub fn read_policy(alloc: Global, text: &str) -> Result<Policy, PolicyFault>
     let mut users = BTreeSet::new(alloc);
     let mut grants = List::new(alloc);
     let mut rest = text;
-    let mut place: usize = 0;
+    let mut offset: usize = 0;
     'pieces: while let Some((piece, after)) = rest.split_once(',') {
         match new_grant(alloc, piece, &mut users)? {
-            None => return Err(PolicyFault::BadPolicy { at: place as u32 }),
+            None => return Err(PolicyFault::BadPolicy { at: offset as u32 }),
             Some(grant) => grants.push(grant)?,
         }
-        place = place + piece.len() + 1;
+        offset = offset + piece.len() + 1;
         rest = after;
     }
     match new_grant(alloc, rest, &mut users)? {
-        None => Err(PolicyFault::BadPolicy { at: place as u32 }),
+        None => Err(PolicyFault::BadPolicy { at: offset as u32 }),
         Some(grant) => {
             grants.push(grant)?;
             Ok(Policy { grants })

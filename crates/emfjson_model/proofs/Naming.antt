@@ -20,7 +20,7 @@ use Rattle.model_documents.specs.Places.{parent_eq}
 use Rattle.emfjson_model.specs.Sources.{also, ends_with, push_once}
 use Rattle.model_documents.proofs.Finding.{parent_exact}
 use Rattle.model_documents.proofs.Finding.{same_place}
-use Rattle.model_documents.proofs.Merging.{features, listed, named_in}
+use Rattle.model_documents.proofs.Completing.{features, listed, named_in}
 use Rattle.model_documents.proofs.Numbers.{has, has_at, or_split, same_bool}
 
 -- ---- a number that comes once

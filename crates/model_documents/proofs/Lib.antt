@@ -2,6 +2,7 @@ pub mod Finding
 pub mod Features
 pub mod Apart
 pub mod Bounds
+pub mod Completing
 pub mod Every
 pub mod Fitting
 pub mod Given
@@ -10,7 +11,6 @@ pub mod InOrder
 pub mod Keys
 pub mod Located
 pub mod Made
-pub mod Merging
 pub mod Numbers
 pub mod Pairs
 pub mod ParentsFirst

@@ -17,7 +17,8 @@ use Rattle.model_documents.specs.Reads.{Read}
 use Rattle.model_documents.specs.References.{given_by}
 use Rattle.model_documents.proofs.Apart.{then_ok}
 use Rattle.model_documents.proofs.Given.{ListFits, ListsFit, given_fit, given_typed, has_plain, plain_apart, plain_has, plain_in_order, plain_of}
-use Rattle.model_documents.proofs.Merging.{IsMerged, features, features_same, listed, merged_list, merged_pairs, named_in, named_there, others_apart}
+use Rattle.model_documents.proofs.Completing.{IsCompleted, completed_list, completed_pairs, features, features_same, listed}
+use Rattle.model_documents.proofs.Completing.{named_in, named_there, others_apart}
 use Rattle.model_documents.proofs.Numbers.{has, has_at, has_either, has_left, has_right, is_either, same_bool}
 use Rattle.model_documents.proofs.Pairs.{Paired, all_pairs, pair_back, pair_forth}
 
@@ -47,7 +48,7 @@ pub record Made (meta : Meta) (drafts : List ElementDraft) (given : List (List D
   pub lists : List DocRefs
   pub given_there : slice_get given n ≡ Some lists
   pub fit : ListsFit meta drafts draft lists
-  pub merged : Paired (λ k q m. IsMerged meta given n q m) 0 lists w.refs
+  pub merged : Paired (λ k q m. IsCompleted meta given n q m) 0 lists w.refs
   pub same : row_of meta draft w.refs ≡ w
 
 module _ (meta : Meta) (promised : IsMetamodel meta) (drafts : List ElementDraft) (given : List (List DocRefs)) (rows : List DocRow)
@@ -82,7 +83,7 @@ module _ (meta : Meta) (promised : IsMetamodel meta) (drafts : List ElementDraft
         lists = lists.0;
         given_there = lists.1;
         fit = lists.2;
-        merged = merged_pairs meta given n lists.0 w.refs (ap (completed_all meta given n) (sym here) ∙ of.0);
+        merged = completed_pairs meta given n lists.0 w.refs (ap (completed_all meta given n) (sym here) ∙ of.0);
         same = of.1;
       }
 
@@ -143,7 +144,7 @@ module _ (meta : Meta) (promised : IsMetamodel meta) (drafts : List ElementDraft
     -- each list fits
     pub list_fits : (k : ℕ) (q : DocRefs) → slice_get w.refs k ≡ Some q → RefsFit meta rows c q
     list_fits k q at =
-        let from = pair_back (λ k q m. IsMerged meta given n q m) 0 m.lists w.refs k q m.merged at in
+        let from = pair_back (λ k q m. IsCompleted meta given n q m) 0 m.lists w.refs k q m.merged at in
         let by = pair_back (λ k f q. ListFits meta drafts f q) 0 (plain_of meta c) m.lists k from.0 m.fit from.1 in
         let f = by.0 in
         let own : f ≡ q.feature = by.2.0 ∙ from.2.feature in
@@ -166,7 +167,7 @@ module _ (meta : Meta) (promised : IsMetamodel meta) (drafts : List ElementDraft
         }
 
     merged_is : (f : ℕ) → has (plain_of meta c) f ≡ true → targets_at f w.refs ≡ completed meta given n (record { feature = f; targets = targets_at f m.lists })
-    merged_is f h = merged_list meta given n 0 m.lists w.refs f m.merged (ap (λ (fs : List ℕ). has fs f) lists_are ∙ h)
+    merged_is f h = completed_list meta given n 0 m.lists w.refs f m.merged (ap (λ (fs : List ℕ). has fs f) lists_are ∙ h)
 
   -- ---- both sides of an opposite
   -- one of the two gives the other

@@ -155,6 +155,6 @@ pub fn law_of_merging()
 pub fn law_of_stores()
     ensures either { EachStandsOrIsDamaged }
     ensures meaning { StandsForOne }
-    ensures place { IsDamagedOnce }
+    ensures offset { IsDamagedOnce }
     ensures none { DamagedStandsForNone }
 {}

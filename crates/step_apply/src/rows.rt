@@ -135,7 +135,7 @@ fn put_to(
 }
 
 /// Puts a row among those to its target.
-fn arrive(
+fn put_incoming(
     into: &mut BTreeMap<Id, BTreeMap<(Id, u32, Id), u64>>,
     alloc: Global,
     key: &(Id, u32, Id),
@@ -150,7 +150,7 @@ fn arrive(
 }
 
 /// Puts a row's target into the list of its feature.
-fn depart(
+fn put_outgoing(
     out: &mut BTreeMap<Id, BTreeMap<u32, RankedList>>,
     alloc: Global,
     key: &(Id, u32, Id),
@@ -180,8 +180,8 @@ fn put_row(
     ensures err { OnErr result (tree.new.entries ≡ tree.old.entries) }
 {
     let old = tree.get(&key).copied();
-    arrive(into, alloc, &key, rank)?;
-    match depart(out, alloc, &key, rank) {
+    put_incoming(into, alloc, &key, rank)?;
+    match put_outgoing(out, alloc, &key, rank) {
         Err(error) => {
             rewrite_to(into, &key.2, &key, old);
             Err(error)

@@ -49,7 +49,7 @@ keeps_on entry a b since before course disk kept told =
 -- the events that were read so far: a script can hold each of them, and it was printed
 pub record HasPrinted (entry now : Told) (opening : OpeningState) : Type 0 where
   pub made : List Event
-  pub replayed : IsPlayedUpTo (disk_now now) opening.state opening.next made
+  pub played_up_to : IsPlayedUpTo (disk_now now) opening.state opening.next made
   pub printable : are_printable empty made ≡ true
   pub said : said_now now ≡ said_now entry ++ script_again made
 
@@ -66,7 +66,7 @@ pub record Walks (entry now : Told) (opening : OpeningState) : Type 0 where
 -- before the first event
 pub begins : (entry now : Told) (opening : OpeningState) → opening.state.end ≡ opening.next → GoesOn entry now → KeepsSaid entry now → KeepsInput entry now
     → IsOpenedSince entry now → (IsTrue entry.tells → IsPlayedUpTo (disk_now now) opening.state opening.next []) → Walks entry now opening
-begins entry now opening at course said input since replayed = record {
+begins entry now opening at course said input since played_up_to = record {
   at = at;
   course = course;
   input = input;
@@ -74,7 +74,7 @@ begins entry now opening at course said input since replayed = record {
   moments = opens entry now said since.moments;
   printed = λ told. record {
     made = [];
-    replayed = replayed told;
+    played_up_to = played_up_to told;
     printable = refl;
     said = said_kept_now entry now course said told ∙ sym (append-nil (said_now entry));
   };
@@ -126,11 +126,11 @@ module _ (entry a b : Told) (opening : OpeningState) (walks : Walks entry a open
         no_events = at_entry.1;
         said = inr (record {
           events = had.made;
-          playable = had.replayed.playable;
+          playable = had.played_up_to.playable;
           printable = had.printable;
           reads = subst (λ (n : ℕ). ReadsTo (disk_now entry).now (map event_encoding had.made) n) (sym here)
               (reads_at_entry entry a (map event_encoding had.made) opening.next (is_long (disk_now a).now damage.1)
-              (walks.since.file told) had.replayed.walked.reads);
+              (walks.since.file told) had.played_up_to.walked.reads);
           said = said_b told;
         });
       }
@@ -166,7 +166,7 @@ module _ (entry a b : Told) (opening : OpeningState) (walks : Walks entry a open
   closed state store = record {
     ends = λ told.
         let had = walks.printed told in
-        let holds = store (told_next entry a walks.course told) had.made had.replayed in
+        let holds = store (told_next entry a walks.course told) had.made had.played_up_to in
         record { events = had.made; stands = stood_since entry b since_b told state had.made holds; printable = had.printable; said = said_b told };
     part = part_b;
     moments = moments_b;
@@ -186,9 +186,9 @@ is_played a b old new bytes after plays is =
 -- the file reads as the events so far and this one
 reads_more : (b : Told) (opening next : OpeningState) (made : List Event) (event : Event) → IsPlayedUpTo (disk_now b) next.state next.next (made ++ event ∷ [])
     → 17 < length (disk_now b).now
-reads_more b opening next made event replayed =
+reads_more b opening next made event played_up_to =
     long_with_record (disk_now b).now (map event_encoding made) (event_encoding event) next.next
-    (subst (λ (l : List (List ℕ)). ReadsTo (disk_now b).now l next.next) (map-more made event) replayed.walked.reads)
+    (subst (λ (l : List (List ℕ)). ReadsTo (disk_now b).now l next.next) (map-more made event) played_up_to.walked.reads)
 
 -- what the file stands for begins with them
 pub stands_first : (b : Told) (made events : List Event) (offset : ℕ)
@@ -207,10 +207,10 @@ module _ (entry a b : Told) (opening : OpeningState) (walks : Walks entry a open
   made_of told = (walks.printed told).made
 
   replayed_b : (told : IsTrue entry.tells) → IsPlayedUpTo (disk_now b) next.state next.next (made_of told ++ plays.event ∷ [])
-  replayed_b told = plays.replayed (told_next entry a walks.course told) (made_of told) (walks.printed told).replayed
+  replayed_b told = plays.played_up_to (told_next entry a walks.course told) (made_of told) (walks.printed told).played_up_to
 
   state_was : (told : IsTrue entry.tells) → opening.state ≡ played play empty (made_of told)
-  state_was told = (walks.printed told).replayed.state_is
+  state_was told = (walks.printed told).played_up_to.state_is
 
   long_b : (told : IsTrue entry.tells) → 17 < length (disk_now b).now
   long_b told = reads_more b opening next (made_of told) plays.event (replayed_b told)
@@ -325,7 +325,7 @@ module _ (entry a b : Told) (opening : OpeningState) (walks : Walks entry a open
             let can : can_print (played play empty made) plays.event ≡ true = ap (λ (s : State). can_print s plays.event) (sym (state_was told)) ∙ print in
             record {
               made = made ++ plays.event ∷ [];
-              replayed = subst (λ (d : Disk). IsPlayedUpTo d next.state next.next (made ++ plays.event ∷ []))
+              played_up_to = subst (λ (d : Disk). IsPlayedUpTo d next.state next.next (made ++ plays.event ∷ []))
                   (sym (kept_now b c course_c disk_c (told_next entry b (course_b entry a b opening walks course disk said input) told))) (replayed_b told);
               printable = printable-more empty made plays.event (walks.printed told).printable can;
               said = said_c told ∙ ap (λ (l : List ℕ). said_now entry ++ (script_again made ++ l)) (said_held (played play empty made) plays.event can)

@@ -69,14 +69,14 @@ damage_on Memory P Q gives p = tt
 pub stuck_is_damage : (disk : Disk) (state : State) (offset at : ℕ) (made : List Event) → IsPlayedUpTo disk state offset made → offset < 2 ^ 40
     → at ≡ offset → IsStuck disk.now at → StandsForNone disk.now
     → IsDamaged disk.now at × StandsForNoEvents disk.now
-stuck_is_damage disk state offset at made replayed low at_is stuck none =
+stuck_is_damage disk state offset at made played_up_to low at_is stuck none =
     let nothing : StandsForNoEvents disk.now = none_stands disk.now none in (
       record {
         long = is_long disk.now nothing;
         found = inr (record {
           events = made;
-          playable = replayed.playable;
-          reads = subst (λ (n : ℕ). ReadsTo disk.now (map event_encoding made) n) (sym at_is) replayed.walked.reads;
+          playable = played_up_to.playable;
+          reads = subst (λ (n : ℕ). ReadsTo disk.now (map event_encoding made) n) (sym at_is) played_up_to.walked.reads;
           low = subst (λ (n : ℕ). n < 2 ^ 40) (sym at_is) low;
           stuck = inl stuck;
         });
@@ -100,12 +100,12 @@ long_with_record file forms bytes offset reads = omega (
 )
 
 -- the bytes of a record are no event that can be made there
-module _ (disk : Disk) (state : State) (offset next at : ℕ) (bytes : List ℕ) (made : List Event) (replayed : IsPlayedUpTo disk state offset made)
+module _ (disk : Disk) (state : State) (offset next at : ℕ) (bytes : List ℕ) (made : List Event) (played_up_to : IsPlayedUpTo disk state offset made)
     (low : offset < 2 ^ 40) (at_is : at ≡ offset) (next_is : next ≡ offset + 5 + length bytes)
     (none : (event : Event) → IsTrue (playable state event) → bytes ≡ event_encoding event → ⊥)
     (reads : ReadsTo disk.now (map event_encoding made ++ bytes ∷ []) next) where
   no_such : (event : Event) → IsTrue (playable (played play empty made) event) → bytes ≡ event_encoding event → ⊥
-  no_such = subst (λ (s : State). (event : Event) → IsTrue (playable s event) → bytes ≡ event_encoding event → ⊥) replayed.state_is none
+  no_such = subst (λ (s : State). (event : Event) → IsTrue (playable s event) → bytes ≡ event_encoding event → ⊥) played_up_to.state_is none
 
   long : 17 < length disk.now
   long = long_with_record disk.now (map event_encoding made) bytes next reads
@@ -116,15 +116,15 @@ module _ (disk : Disk) (state : State) (offset next at : ℕ) (bytes : List ℕ)
       long = long;
       found = inr (record {
         events = made;
-        playable = replayed.playable;
-        reads = subst (λ (n : ℕ). ReadsTo disk.now (map event_encoding made) n) (sym at_is) replayed.walked.reads;
+        playable = played_up_to.playable;
+        reads = subst (λ (n : ℕ). ReadsTo disk.now (map event_encoding made) n) (sym at_is) played_up_to.walked.reads;
         low = subst (λ (n : ℕ). n < 2 ^ 40) (sym at_is) low;
         stuck = inr (record {
           bytes = bytes;
           reads = subst (λ (n : ℕ). ReadsTo disk.now (map event_encoding made ++ bytes ∷ []) n)
               (next_is ∙ ap (λ (n : ℕ). n + 5 + length bytes) (sym at_is)) reads;
           no_event = λ events could is.
-              none_has made events bytes [] replayed.playable no_such could (is ∙ sym (append-nil (map event_encoding made ++ bytes ∷ [])));
+              none_has made events bytes [] played_up_to.playable no_such could (is ∙ sym (append-nil (map event_encoding made ++ bytes ∷ [])));
         });
       });
     },
@@ -132,7 +132,7 @@ module _ (disk : Disk) (state : State) (offset next at : ℕ) (bytes : List ℕ)
       | inl few ↦ absurd (omega (arith, few.0, long))
       | inr many ↦
           let more = reads_first disk.now (map event_encoding made ++ bytes ∷ []) (map event_encoding events) next many.1.0 reads many.1.1 in
-          none_has made events bytes more.0 replayed.playable no_such stood.playable more.1
+          none_has made events bytes more.0 played_up_to.playable no_such stood.playable more.1
     ]),
   )
 
@@ -181,7 +181,7 @@ module _ (a b : Told) (old new : OpeningState) (bytes : List ℕ) (event : Playe
     could = event.1;
     spelt = event.2;
     state_is = event.3;
-    replayed = λ told made had. record {
+    played_up_to = λ told made had. record {
       walked = subst (λ (l : List (List ℕ)). IsWalked (disk_now b) l new.next)
           (ap (λ (l : List ℕ). map event_encoding made ++ l ∷ []) event.2 ∙ sym (map-more made event.0))
           (walked told (map event_encoding made) had.walked);
@@ -246,7 +246,7 @@ pub record Mounts (entry now : Told) (opening : OpeningState) : Type 0 where
   pub course : GoesOn entry now
   pub said : KeepsSaid entry now
   pub input : KeepsInput entry now
-  pub replayed : IsTrue entry.tells → (made : List Event) × IsPlayedUpTo (disk_now now) opening.state opening.next made
+  pub played_up_to : IsTrue entry.tells → (made : List Event) × IsPlayedUpTo (disk_now now) opening.state opening.next made
   pub since : IsOpenedSince entry now
 
 module _ (entry a b : Told) (opening : OpeningState) (mounts : Mounts entry a opening) (course : GoesOn a b) (disk : KeepsDisk a b)
@@ -270,7 +270,9 @@ module _ (entry a b : Told) (opening : OpeningState) (mounts : Mounts entry a op
     course = mounts_course;
     said = mounts_said;
     input = mounts_input;
-    replayed = λ told. let had = mounts.replayed told in (had.0 ++ plays.event ∷ [], plays.replayed (told_next entry a mounts.course told) had.0 had.1);
+    played_up_to = λ told.
+        let had = mounts.played_up_to told in
+        (had.0 ++ plays.event ∷ [], plays.played_up_to (told_next entry a mounts.course told) had.0 had.1);
     since = mounts_since;
   }
 
@@ -279,6 +281,6 @@ module _ (entry a b : Told) (opening : OpeningState) (mounts : Mounts entry a op
       → (IsTrue a.tells → (made : List Event) → IsPlayedUpTo (disk_now a) opening.state opening.next made → IsStoreOf (disk_now b) state made)
       → IsTrue entry.tells → (made : List Event) × IsStoreOf (disk_now b) state made × StandsForEvents (disk_now entry).now made
   mounted state store told =
-      let had = mounts.replayed told in
+      let had = mounts.played_up_to told in
       let holds = store (told_next entry a mounts.course told) had.0 had.1 in
       (had.0, holds, stood_since entry b mounts_since told state had.0 holds)

@@ -33,5 +33,5 @@ pub record PlaysEvent (before now : Told) (old new : OpeningState) (bytes : List
   pub could : IsTrue (playable old.state event)
   pub spelt : bytes ≡ event_encoding event
   pub state_is : new.state ≡ play old.state event
-  pub replayed : IsTrue before.tells → (made : List Event) → IsPlayedUpTo (disk_now before) old.state old.next made
+  pub played_up_to : IsTrue before.tells → (made : List Event) → IsPlayedUpTo (disk_now before) old.state old.next made
       → IsPlayedUpTo (disk_now now) new.state new.next (made ++ event ∷ [])

@@ -148,7 +148,7 @@ impl Opening {
     /// `Damaged` at the first byte that is not the header's, `DiskFault` and `Memory`.
     pub fn begin<H: Host>(alloc: Global, host: &mut H) -> Result<Opening, SessionFault>
         ensures at { IfOk result (λ o. o.state.end ≡ o.next) }
-        ensures replayed { IfOk result (λ o. IsTrue (H.told host.old).tells → IsPlayedUpTo (disk_now (H.told host.new)) o.state o.next []) }
+        ensures played_up_to { IfOk result (λ o. IsTrue (H.told host.old).tells → IsPlayedUpTo (disk_now (H.told host.new)) o.state o.next []) }
         ensures since { OnOk result (IsOpenedSince (H.told host.old) (H.told host.new)) }
         ensures moments { Throughout (H.told host.old) (H.told host.new) (λ disk _. IsMounting (disk_now (H.told host.old)) disk) }
         ensures damaged { IfErr result (λ e. AtDamage e (λ at. IsTrue (H.told host.old).tells → IsDamaged (disk_now (H.told host.old)).now at × StandsForNoEvents (disk_now (H.told host.old)).now)) }
@@ -195,7 +195,7 @@ impl Opening {
         host: &mut H,
     ) -> Result<Option<Played>, SessionFault>
         requires at { self.old.state.end ≡ self.old.next }
-        requires replayed { IsTrue (H.told host.old).tells → ((made : List Event) × IsPlayedUpTo (disk_now (H.told host.old)) self.old.state self.old.next made) }
+        requires played_up_to { IsTrue (H.told host.old).tells → ((made : List Event) × IsPlayedUpTo (disk_now (H.told host.old)) self.old.state self.old.next made) }
         ensures played { IfOk result (λ next. IfSome next (PlaysEvent (H.told host.old) (H.told host.new) self.old self.new)) }
         ensures at { OnOk result (self.new.state.end ≡ self.new.next) }
         ensures advances { IfOk result (λ next. IfSome next (λ _. self.old.next < self.new.next)) }

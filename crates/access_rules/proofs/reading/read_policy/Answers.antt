@@ -12,8 +12,8 @@ returns-in-None c =
     let cut : IsCut c.pieces.rest.now c.in-Some.piece.now c.in-Some.after.now =
     cut_is c.pieces.rest.now c.split_once.result c.split_once.ensures.cases (c.in-Some.piece, c.in-Some.after) is in
     record {
-      policy = stops c.args.text.now c.pieces.grants c.pieces.place c.pieces.rest.now c.in-Some.piece.now (pieces c.in-Some.after.now) c.in_ok-new_grant.field-0
-          c.pieces.invariant.read (cut_pieces c.pieces.rest.now c.in-Some.piece.now c.in-Some.after.now cut)
+      policy = stops c.args.text.now c.pieces.grants c.pieces.offset c.pieces.rest.now c.in-Some.piece.now (pieces c.in-Some.after.now)
+          c.in_ok-new_grant.field-0 c.pieces.invariant.read (cut_pieces c.pieces.rest.now c.in-Some.piece.now c.in-Some.after.now cut)
           (c.in_ok-new_grant.ensures.grant c.pieces.grants c.pieces.invariant.users) c.in-None.is;
     }
 
@@ -28,8 +28,8 @@ pieces-preserved c =
           let size : length c.in-Some.piece.now + 1 + length c.in-Some.after.now ≡ length c.pieces.rest.now =
           cut_length c.pieces.rest.now c.in-Some.piece.now c.in-Some.after.now cut in
           omega (arith, size, c.pieces.invariant.short);
-      read = goes_on c.args.text.now c.pieces.grants c.pieces.place c.pieces.rest.now c.in-Some.piece.now (pieces c.in-Some.after.now) c.in_ok-new_grant.field-0
-          c.pieces.invariant.read (cut_pieces c.pieces.rest.now c.in-Some.piece.now c.in-Some.after.now cut)
+      read = goes_on c.args.text.now c.pieces.grants c.pieces.offset c.pieces.rest.now c.in-Some.piece.now (pieces c.in-Some.after.now)
+          c.in_ok-new_grant.field-0 c.pieces.invariant.read (cut_pieces c.pieces.rest.now c.in-Some.piece.now c.in-Some.after.now cut)
           (c.in_ok-new_grant.ensures.grant c.pieces.grants c.pieces.invariant.users) c.in-Some-2.grant c.push.new.self c.in-Some-2.is
           c.in_ok-push-in-Some-2.ensures.ok;
       users = users_on c.pieces.users c.new_grant.new.users c.pieces.grants c.push.new.self c.in_ok-new_grant.field-0 c.in-Some-2.grant
@@ -40,7 +40,7 @@ pub returns-in-None-2 : goal.returns-in-None-2
 returns-in-None-2 c =
     let is : c.split_once.result ≡ None = cc in
     record {
-      policy = stops c.args.text.now c.pieces.grants c.pieces.place c.pieces.rest.now c.pieces.rest.now [] c.in_ok-new_grant-2.field-0
+      policy = stops c.args.text.now c.pieces.grants c.pieces.offset c.pieces.rest.now c.pieces.rest.now [] c.in_ok-new_grant-2.field-0
           c.pieces.invariant.read (whole_is c.pieces.rest.now c.split_once.result c.split_once.ensures.cases is)
           (c.in_ok-new_grant-2.ensures.grant c.pieces.grants c.pieces.invariant.users) c.in-None-2.is;
     }
@@ -49,7 +49,7 @@ pub returns : goal.returns
 returns c =
     let is : c.split_once.result ≡ None = cc in
     record {
-      policy = goes_on c.args.text.now c.pieces.grants c.pieces.place c.pieces.rest.now c.pieces.rest.now [] c.in_ok-new_grant-2.field-0
+      policy = goes_on c.args.text.now c.pieces.grants c.pieces.offset c.pieces.rest.now c.pieces.rest.now [] c.in_ok-new_grant-2.field-0
           c.pieces.invariant.read (whole_is c.pieces.rest.now c.split_once.result c.split_once.ensures.cases is)
           (c.in_ok-new_grant-2.ensures.grant c.pieces.grants c.pieces.invariant.users) c.in-Some-3.grant c.push-in-Some-3.new.self c.in-Some-3.is
           c.in_ok-push-in-Some-3.ensures.ok;

@@ -8,8 +8,8 @@ use Rattle.access_rules.proofs.reading.read_policy.Given as goal
 abbrev pub invariant-pieces : goal.invariant-pieces
 invariant-pieces l = record {
   utf8 : shadow (Utf8 l.rest);
-  short : l.place + length l.rest ≤ length l.text;
-  read : grants_of l.text ≡ grants_from l.grants l.place (pieces l.rest);
+  short : l.offset + length l.rest ≤ length l.text;
+  read : grants_of l.text ≡ grants_from l.grants l.offset (pieces l.rest);
   users : HasUsers l.users l.grants;
 }
 

@@ -6,8 +6,8 @@ use Rattle.merge_laws.proofs.Order.{buckets_in_order}
 use Rattle.merge_laws.proofs.BucketChoice.{buckets_leave_no_choice}
 use Rattle.merge_laws.proofs.bucket_laws.law_of_buckets.Goals as goal
 
-pub returns-clause-parts : goal.returns-clause-parts
-returns-clause-parts c = buckets_are_parts
+pub returns-clause-grouped : goal.returns-clause-grouped
+returns-clause-grouped c = buckets_are_parts
 
 pub returns-clause-least : goal.returns-clause-least
 returns-clause-least c = labels_are_least

@@ -8,8 +8,8 @@ returns-clause-either c = each_file
 pub returns-clause-meaning : goal.returns-clause-meaning
 returns-clause-meaning c = same_events
 
-pub returns-clause-place : goal.returns-clause-place
-returns-clause-place c = same_damage
+pub returns-clause-offset : goal.returns-clause-offset
+returns-clause-offset c = same_damage
 
 pub returns-clause-none : goal.returns-clause-none
 returns-clause-none c = damaged_for_none

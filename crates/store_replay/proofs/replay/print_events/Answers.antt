@@ -7,7 +7,7 @@ use Rattle.store_replay.proofs.replay.print_events.Goals as goal
 
 pub events-init : goal.events-init
 events-init g c = begins (g.H.Host.told c.args.host.now) (g.H.Host.told c.begin.new.host) _ c.in-Ok.ensures.at c.begin.ensures.course c.begin.ensures.said
-    c.begin.ensures.input c.in-Ok.ensures.since (λ told. c.in-Ok.ensures.replayed told)
+    c.begin.ensures.input c.in-Ok.ensures.since (λ told. c.in-Ok.ensures.played_up_to told)
 
 -- the store was not opened
 pub returns-in-Err : goal.returns-in-Err

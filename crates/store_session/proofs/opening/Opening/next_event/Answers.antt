@@ -31,7 +31,7 @@ HasReplayed disk o = (made : List Event) × IsPlayedUpTo disk o.state o.next mad
 pub next_record-requires : goal.next_record-requires
 next_record-requires g c = record {
   walked = λ told.
-      let had = subst (HasReplayed (disk_now (g.H.Host.told c.args.host.now))) (sym c.self.view_is) (c.requires.replayed told) in
+      let had = subst (HasReplayed (disk_now (g.H.Host.told c.args.host.now))) (sym c.self.view_is) (c.requires.played_up_to told) in
       (map event_encoding had.0, had.1.walked);
 }
 
@@ -52,7 +52,7 @@ returns-in-Err-clause-damaged g c = rw c.session_fault.ensures (damage_of c.in-E
     (λ (at : ℕ). IsTrue (g.H.Host.told c.args.host.now).tells
     → IsDamaged (disk_now (g.H.Host.told c.args.host.now)).now at × StandsForNoEvents (disk_now (g.H.Host.told c.args.host.now)).now)
     (λ at stuck none told.
-    let had = subst (HasReplayed (disk_now (g.H.Host.told c.args.host.now))) (sym c.self.view_is) (c.requires.replayed told) in
+    let had = subst (HasReplayed (disk_now (g.H.Host.told c.args.host.now))) (sym c.self.view_is) (c.requires.played_up_to told) in
     stuck_is_damage (disk_now (g.H.Host.told c.args.host.now)) c.self.inside.repo c.self.inside.walk.next at had.0 had.1
     (subst (λ (n : ℕ). n < 2 ^ 40) (ap next_of c.in-Err.ensures.err) c.next_record.ensures.low) stuck.0 (stuck.1 told) (none told))
     c.in-Err.ensures.damaged c.in-Err.ensures.nothing)
@@ -95,7 +95,7 @@ returns-in-Ok-clause-at g c =
 
 pub returns-in-Err-NotPlayable-clause-damaged : goal.returns-in-Err-NotPlayable-clause-damaged
 returns-in-Err-NotPlayable-clause-damaged g c = λ told.
-    let had = subst (HasReplayed (disk_now (g.H.Host.told c.args.host.now))) (sym c.self.view_is) (c.requires.replayed told) in
+    let had = subst (HasReplayed (disk_now (g.H.Host.told c.args.host.now))) (sym c.self.view_is) (c.requires.played_up_to told) in
     let some = rw c.in-Ok-Some.field-0-is at c.in-Ok-Some.ensures.some in
     let walked = rw c.in-Ok-Some.field-0-is at c.in-Ok-Some.ensures.walked in
     event_is_damage (disk_now (g.H.Host.told c.args.host.now)) c.self.inside.repo c.self.inside.walk.next c.next_record.new.walk.next c.offset.result

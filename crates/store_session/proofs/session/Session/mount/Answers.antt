@@ -22,7 +22,7 @@ records-init g c = record {
   course = c.begin.ensures.course;
   said = c.begin.ensures.said;
   input = c.begin.ensures.input;
-  replayed = λ told. ([], c.in-Ok.ensures.replayed told);
+  played_up_to = λ told. ([], c.in-Ok.ensures.played_up_to told);
   since = c.in-Ok.ensures.since;
 }
 

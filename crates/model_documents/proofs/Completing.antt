@@ -112,7 +112,7 @@ others_apart (Some g) a ts given h = named_apart g a ts given h
 
 -- ---- the lists of an element
 -- a list with those that name the element by the opposite
-pub record IsMerged (meta : Meta) (given : List (List DocRefs)) (a : ℕ) (q m : DocRefs) : Type 0 where
+pub record IsCompleted (meta : Meta) (given : List (List DocRefs)) (a : ℕ) (q m : DocRefs) : Type 0 where
   pub feature : q.feature ≡ m.feature
   pub targets : m.targets ≡ completed meta given a q
   pub within : is_within (length m.targets) (row_upper meta m.feature) ≡ true
@@ -124,32 +124,32 @@ module _ (meta : Meta) (given : List (List DocRefs)) (a : ℕ) where
   list_ok : (p q : DocRefs) → ◌≡◌ {A = Read DocRefs} (Ok p) (Ok q) → p ≡ q
   list_ok p q h = cc
 
-  merged_one : (q m : DocRefs) → completed_at meta given a [] q ≡ Ok m → IsMerged meta given a q m
-  merged_one q m h =
+  completed_one : (q m : DocRefs) → completed_at meta given a [] q ≡ Ok m → IsCompleted meta given a q m
+  completed_one q m h =
       let ts = then_ok (completed_within meta given a q) (λ ts. Ok (record { feature = q.feature; targets = ts })) m h in
       let same : record { feature = q.feature; targets = ts.0 } ≡ m = list_ok (record { feature = q.feature; targets = ts.0 }) m ts.2 in
       let is : completed meta given a q ≡ ts.0 =
       numbers_ok (completed meta given a q) ts.0
       (unless_ok (is_within (length (completed meta given a q)) (row_upper meta q.feature)) Bound (Ok (completed meta given a q)) ts.0 ts.1) in
       let within = unless_true (is_within (length (completed meta given a q)) (row_upper meta q.feature)) Bound (Ok (completed meta given a q)) ts.0 ts.1 in
-      subst (IsMerged meta given a q) same
+      subst (IsCompleted meta given a q) same
       (record { feature = refl; targets = sym is; within = ap (λ (xs : List ℕ). is_within (length xs) (row_upper meta q.feature)) (sym is) ∙ within })
 
-  pub merged_pairs : (refs ms : List DocRefs) → completed_all meta given a refs ≡ Ok ms → Paired (λ k q m. IsMerged meta given a q m) 0 refs ms
-  merged_pairs refs ms h = all_pairs (λ k q m. IsMerged meta given a q m) (completed_at meta given a) (λ bs q m e. merged_one q m e) refs ms h
+  pub completed_pairs : (refs ms : List DocRefs) → completed_all meta given a refs ≡ Ok ms → Paired (λ k q m. IsCompleted meta given a q m) 0 refs ms
+  completed_pairs refs ms h = all_pairs (λ k q m. IsCompleted meta given a q m) (completed_at meta given a) (λ bs q m e. completed_one q m e) refs ms h
 
-  pub features_same : (n : ℕ) (refs ms : List DocRefs) → Paired (λ k q m. IsMerged meta given a q m) n refs ms → features ms ≡ features refs
+  pub features_same : (n : ℕ) (refs ms : List DocRefs) → Paired (λ k q m. IsCompleted meta given a q m) n refs ms → features ms ≡ features refs
   features_same n [] [] p = refl
   features_same n [] (m ∷ ms) p = absurd p
   features_same n (q ∷ refs) [] p = absurd p
   features_same n (q ∷ refs) (m ∷ ms) p = ap₂ (λ x xs. x ∷ xs) (sym p.0.feature) (features_same (suc n) refs ms p.1)
 
-  -- the merged list of a feature
-  pub merged_list : (n : ℕ) (refs ms : List DocRefs) (f : ℕ) → Paired (λ k q m. IsMerged meta given a q m) n refs ms → has (features refs) f ≡ true
+  -- the completed list of a feature
+  pub completed_list : (n : ℕ) (refs ms : List DocRefs) (f : ℕ) → Paired (λ k q m. IsCompleted meta given a q m) n refs ms → has (features refs) f ≡ true
       → targets_at f ms ≡ completed meta given a (record { feature = f; targets = targets_at f refs })
-  merged_list n [] ms f p h = cc
-  merged_list n (q ∷ refs) [] f p h = absurd p
-  merged_list n (q ∷ refs) (m ∷ ms) f p h = by_test (nat_eq f q.feature) refl h (λ e. merged_list (suc n) refs ms f p.1 e)
+  completed_list n [] ms f p h = cc
+  completed_list n (q ∷ refs) [] f p h = absurd p
+  completed_list n (q ∷ refs) (m ∷ ms) f p h = by_test (nat_eq f q.feature) refl h (λ e. completed_list (suc n) refs ms f p.1 e)
     where
       by_test : (t : Bool) → nat_eq f q.feature ≡ t → t || has (features refs) f ≡ true
           → (has (features refs) f ≡ true → targets_at f ms ≡ completed meta given a (record { feature = f; targets = targets_at f refs }))
