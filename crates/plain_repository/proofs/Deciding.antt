@@ -17,7 +17,7 @@ use Rattle.op_reading.specs.declared.fault.FormFault.{FormFault}
 use Rattle.op_reading.specs.Events.{event_at, whole_of}
 use Rattle.plain_repository.specs.State.{State, empty}
 use Rattle.plain_repository.specs.Events.{play, playable, are_playable}
-use Rattle.plain_repository.proofs.Stores.{none_has, map-more, playable-more}
+use Rattle.plain_repository.proofs.Stores.{map-more, playable-more}
 use Rattle.plain_repository.specs.Store.{StandsOrIsDamaged}
 use Rattle.plain_repository.proofs.Decoded.{decoded, none_spelled, other_spelled}
 
@@ -127,8 +127,7 @@ module _ (file : List ℕ) (bytes : AreBytes file) (long : new_size < length fil
             stuck = inr (record {
               bytes = form;
               reads = subst (λ (n : ℕ). ReadsTo file (map event_encoding events ++ form ∷ []) n) length_is form_reads;
-              no_event = λ more could_all is.
-                  none_has events more form [] could none could_all (is ∙ sym (append-nil (map event_encoding events ++ form ∷ [])));
+              no_event = none;
             });
           });
         },

@@ -170,17 +170,6 @@ no_header_before : (file : List ℕ) (a b : ℕ) → IsNoHeader file a → IsNoH
 no_header_before file a b one two before =
     one.differs (sym (get_or-take b file a 0 before) ∙ ap (λ (l : List ℕ). get_or l a 0) two.same ∙ get_or-take b header a 0 before)
 
--- events whose records go on after those of others, by one encoding at least: these and one more have the first of these
-one_event_more : (events : List Event) (forms : List (List ℕ)) (form : List ℕ) (more : List (List ℕ)) → IsTrue (are_playable empty events)
-    → map event_encoding events ≡ forms ++ form ∷ more
-    → (next : List Event) × IsTrue (are_playable empty next) × (map event_encoding next ≡ forms ++ form ∷ [])
-one_event_more events forms form more could is =
-    let split = split_last events forms form more empty could (is ∙ sym (append_assoc forms (form ∷ []) more)) in (
-      split.0 ++ split.1 ∷ [],
-      playable-more empty split.0 split.1 split.4 split.5,
-      map-more split.0 split.1 ∙ ap (λ (l : List (List ℕ)). l ++ event_encoding split.1 ∷ []) split.2 ∙ ap (λ (l : List ℕ). forms ++ l ∷ []) split.3,
-    )
-
 -- a reading of events goes on where another is broken
 module _ (file : List ℕ) (p q : ℕ) (events : List Event) (broken : IsBroken file p) (could : IsTrue (are_playable empty events))
     (reads : ReadsTo file (map event_encoding events) q) (before : p < q) (low : q < 2 ^ 40) where
@@ -217,8 +206,9 @@ module _ (file : List ℕ) (p q : ℕ) (events : List Event) (broken : IsBroken 
         let same : unplayable.bytes ≡ next.form = last_same (map event_encoding broken.events) last.more unplayable.bytes last.form last.is
         ∙ form_same last.form next.form (records last.more ++ drop (p + 5 + length unplayable.bytes) file)
         (records next.more ++ drop q file) last.short next.short tails in
-        let more = one_event_more events (map event_encoding broken.events) next.form next.more could next.is in
-        unplayable.no_event more.0 more.1 (more.2 ∙ ap (λ (l : List ℕ). map event_encoding broken.events ++ l ∷ []) (sym same))
+        none_has broken.events events unplayable.bytes next.more broken.playable unplayable.no_event could
+        (next.is ∙ ap (λ (l : List ℕ). map event_encoding broken.events ++ l ∷ next.more) (sym same)
+        ∙ sym (append_assoc (map event_encoding broken.events) (unplayable.bytes ∷ []) next.more))
   ]
 
 -- a file is damaged at one place
@@ -254,9 +244,7 @@ damaged_for_none file at damaged events stood = elim stood.forms [
       | inr unplayable ↦
           let more = reads_first file (map event_encoding broken.events ++ unplayable.bytes ∷ []) (map event_encoding events)
           (at + 5 + length unplayable.bytes) many.1.0 unplayable.reads many.1.1 in
-          let first = one_event_more events (map event_encoding broken.events) unplayable.bytes more.0 stood.playable
-          (more.1 ∙ append_assoc (map event_encoding broken.events) (unplayable.bytes ∷ []) more.0) in
-          unplayable.no_event first.0 first.1 first.2
+          none_has broken.events events unplayable.bytes more.0 broken.playable unplayable.no_event stood.playable more.1
     ]
   ]
 ]

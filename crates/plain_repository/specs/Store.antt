@@ -1,12 +1,13 @@
 -- What the bytes of a file stand for.
-use Rattle.std.specs.Prelude.{◌≡◌, ◌⊎◌, ℕ, ◌^◌, ◌<◌, List, [], ◌∷◌, ◌++◌, IsTrue, length, map}
+use Rattle.std.specs.Prelude.{◌≡◌, ◌≢◌, ◌⊎◌, ℕ, ◌^◌, ◌<◌, List, [], ◌∷◌, ◌++◌, IsTrue, length, map}
 use Rattle.byte_form.specs.Laws.{AreBytes}
 use Rattle.host_port.specs.Host.{Disk}
+use Rattle.command_runs.specs.Runs.{played}
 use Rattle.commit_journal.specs.Journal.{StandsFor, ReadsTo, IsStuck, IsNoHeader, IsJournalAtRest, new_size, next_gate}
 use Rattle.op_form.specs.declared.event.Event.{Event}
 use Rattle.op_form.specs.Events.{event_encoding}
 use Rattle.plain_repository.specs.State.{empty}
-use Rattle.plain_repository.specs.Events.{are_playable}
+use Rattle.plain_repository.specs.Events.{play, playable, are_playable}
 
 -- the events whose records the file has, each one that could be made after those before it
 pub record StandsForEvents (file : List ℕ) (events : List Event) : Type 0 where
@@ -17,11 +18,11 @@ pub record StandsForEvents (file : List ℕ) (events : List Event) : Type 0 wher
 abbrev pub StandsForNoEvents : List ℕ → Type 0
 StandsForNoEvents file = (events : List Event) → ¬ StandsForEvents file events
 
--- the record that stands after those of some events is whole, and its bytes are no event that could be made there
+-- the record that stands after those of some events is whole, and no event that could be made there has its bytes
 pub record IsUnplayable (file : List ℕ) (events : List Event) (at : ℕ) : Type 0 where
   pub bytes : List ℕ
   pub reads : ReadsTo file (map event_encoding events ++ bytes ∷ []) (next_gate at (length bytes))
-  pub no_event : (more : List Event) → IsTrue (are_playable empty more) → map event_encoding more ≡ map event_encoding events ++ bytes ∷ [] → ⊥
+  pub no_event : (event : Event) → IsTrue (playable (played play empty events) event) → bytes ≢ event_encoding event
 
 -- the records up to an offset below 2^40 are those of events, and there neither a closed gate nor a record of an event stands
 pub record IsBroken (file : List ℕ) (at : ℕ) : Type 0 where

@@ -2,7 +2,7 @@
 use Rattle.std.proofs.Common.{◌≡◌, inl, inr, ℕ, ◌+◌, ◌^◌, ◌<◌, List, [], ◌∷◌, ◌++◌, Ok, Err, length, false, refl, sym, ◌∙◌, ap, subst, arith, length-append}
 use Rattle.std.specs.Prelude.{IsTrue, map}
 use Rattle.std.proofs.lemmas.Bool.{cases_lt}
-use Rattle.std.proofs.lemmas.List.{append-nil, length-take}
+use Rattle.std.proofs.lemmas.List.{length-take}
 use Rattle.host_port.specs.Host.{Told, Disk, MayLeave, GoesOn, KeepsDisk, KeepsSaid, KeepsInput, disk_now}
 use Rattle.host_port.proofs.Course.{carry_on, at_last, told_next, course_on, kept_now, keeps_said_on, keeps_input_on}
 use Rattle.commit_journal.specs.TornWrites.{IsStable}
@@ -123,8 +123,7 @@ module _ (disk : Disk) (state : State) (offset next at : ℕ) (bytes : List ℕ)
           bytes = bytes;
           reads = subst (λ (n : ℕ). ReadsTo disk.now (map event_encoding made ++ bytes ∷ []) n)
               (next_is ∙ ap (λ (n : ℕ). n + 5 + length bytes) (sym at_is)) reads;
-          no_event = λ events could is.
-              none_has made events bytes [] played_up_to.playable no_such could (is ∙ sym (append-nil (map event_encoding made ++ bytes ∷ [])));
+          no_event = no_such;
         });
       });
     },
