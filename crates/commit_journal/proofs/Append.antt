@@ -8,14 +8,14 @@ use Rattle.host_port.specs.Host.{Told, GoesOn, Throughout, disk_now, Disk, Span,
 use Rattle.host_port.proofs.Replaying.{whole_write}
 use Rattle.commit_journal.specs.TornWrites.{IsStable, Torn, IsWriting}
 use Rattle.commit_journal.specs.Journal.{after_gate, HoldsRecord, RecordFits, IsReady, IsShort, EndsAt, IsJournalAtRest, IsBeforeOrAfter, IsGateLast, open_gate}
-use Rattle.commit_journal.proofs.Torn.{torn_part, left_settled, torn_front, torn_back}
+use Rattle.commit_journal.proofs.Torn.{torn_part, left_stable, torn_front, torn_back}
 use Rattle.commit_journal.proofs.Ends.{stands, same_end, opened, shut, length-after_gate}
 use Rattle.page_pool.specs.Frames.{Frames}
 use Rattle.page_pool.specs.Paged.{PagedState, content}
 use Rattle.host_port.proofs.Course.{carry_on, told_next}
 
-pub synced_settled : (disk : Disk) → IsStable (synced disk)
-synced_settled disk = record { tight = refl; same = refl }
+pub synced_stable : (disk : Disk) → IsStable (synced disk)
+synced_stable disk = record { tight = refl; same = refl }
 
 part_torn : (old disk : Disk) (span : Span) → WrittenPart old span disk → Torn span old.now disk.now
 part_torn old disk span part = record { no_shorter = part.no_shorter; no_longer = part.no_longer; kept = part.kept }
@@ -25,7 +25,7 @@ overwritten_back old at bytes fits =
     ap (λ (l : List ℕ). drop at l) (append_assoc (take at old) bytes (drop (at + length bytes) old))
     ∙ drop_at (take at old) (bytes ++ drop (at + length bytes) old) at (omega (arith, length-take at old))
 
-module _ (old : Disk) (at : ℕ) (bytes : List ℕ) (settled : IsStable old) (fits : at ≤ length old.now) where
+module _ (old : Disk) (at : ℕ) (bytes : List ℕ) (stable : IsStable old) (fits : at ≤ length old.now) where
   pub whole_torn : Torn (record { from = at; to = at + length bytes }) old.now (overwritten old.now at bytes)
   whole_torn = part_torn old (written old at bytes) _ (whole_write old at bytes (written old at bytes) fits refl)
 
@@ -36,9 +36,9 @@ module _ (old : Disk) (at : ℕ) (bytes : List ℕ) (settled : IsStable old) (fi
 
   -- what a crash leaves at a moment of the write
   pub left_torn : (disk : Disk) → IsWriting old at bytes disk → (x : List ℕ) → MayLeave disk x → Torn (record { from = at; to = at + length bytes }) old.now x
-  left_torn disk (inl part) x left = torn_part old disk _ x settled part left
+  left_torn disk (inl part) x left = torn_part old disk _ x stable part left
   left_torn disk (inr done) x left =
-      let is = left_settled (synced (written old at bytes)) x (synced_settled (written old at bytes)) (subst (λ d. MayLeave d x) done left) in
+      let is = left_stable (synced (written old at bytes)) x (synced_stable (written old at bytes)) (subst (λ d. MayLeave d x) done left) in
       subst (λ (l : List ℕ). Torn (record { from = at; to = at + length bytes }) old.now l) (sym is) whole_torn
 
 module _ (old : Disk) (forms : List (List ℕ)) (gate : ℕ) (form : List ℕ) (at_rest : IsJournalAtRest old forms gate) (short : IsShort form)
@@ -49,19 +49,19 @@ module _ (old : Disk) (forms : List (List ℕ)) (gate : ℕ) (form : List ℕ) (
   -- the record and the next gate first
   pub first_leaves : (disk : Disk) → IsWriting old (gate + 1) (after_gate form) disk → CrashLeaves (λ x. EndsAt x forms gate) disk
   first_leaves disk writing x left =
-      let torn = left_torn old (gate + 1) (after_gate form) at_rest.settled in_file disk writing x left in
+      let torn = left_torn old (gate + 1) (after_gate form) at_rest.stable in_file disk writing x left in
       same_end old.now forms gate at_rest.ends x (torn_front (gate + 1) (length (after_gate form)) old.now x torn (gate + 1) (omega arith) in_file)
       (omega (arith, torn.no_shorter, in_file))
 
   pub first_gate : (disk : Disk) → IsWriting old (gate + 1) (after_gate form) disk → CrashLeaves (λ x. get_or x gate 0 ≡ get_or old.now gate 0) disk
   first_gate disk writing x left =
-      let torn = left_torn old (gate + 1) (after_gate form) at_rest.settled in_file disk writing x left in
+      let torn = left_torn old (gate + 1) (after_gate form) at_rest.stable in_file disk writing x left in
       torn.kept gate (omega (arith, in_file)) (inl (omega arith))
 
   pub first_front : (disk : Disk) → IsWriting old (gate + 1) (after_gate form) disk → take gate disk.now ≡ take gate old.now
   first_front disk writing =
       torn_front (gate + 1) (length (after_gate form)) old.now disk.now
-      (now_torn old (gate + 1) (after_gate form) at_rest.settled in_file disk writing) gate (omega arith) (omega (arith, in_file))
+      (now_torn old (gate + 1) (after_gate form) at_rest.stable in_file disk writing) gate (omega arith) (omega (arith, in_file))
 
   abbrev staged : List ℕ
   staged = overwritten old.now (gate + 1) (after_gate form)
@@ -70,7 +70,7 @@ module _ (old : Disk) (forms : List (List ℕ)) (gate : ℕ) (form : List ℕ) (
   mid = synced (written old (gate + 1) (after_gate form))
 
   staged_torn : Torn (record { from = gate + 1; to = gate + 1 + length (after_gate form) }) old.now staged
-  staged_torn = whole_torn old (gate + 1) (after_gate form) at_rest.settled in_file
+  staged_torn = whole_torn old (gate + 1) (after_gate form) at_rest.stable in_file
 
   staged_front : take gate staged ≡ take gate old.now
   staged_front = torn_front (gate + 1) (length (after_gate form)) old.now staged staged_torn gate (omega arith) (omega (arith, in_file))
@@ -109,12 +109,12 @@ module _ (old : Disk) (forms : List (List ℕ)) (gate : ℕ) (form : List ℕ) (
   -- and then the gate
   pub second_leaves : (disk : Disk) → IsWriting mid gate (open_gate ∷ []) disk → CrashLeaves (IsBeforeOrAfter forms form) disk
   second_leaves disk writing x left =
-      either x (left_torn mid gate (open_gate ∷ []) (synced_settled (written old (gate + 1) (after_gate form)))
+      either x (left_torn mid gate (open_gate ∷ []) (synced_stable (written old (gate + 1) (after_gate form)))
       (omega (arith, staged_long)) disk writing x left)
 
   pub second_front : (disk : Disk) → IsWriting mid gate (open_gate ∷ []) disk → take gate disk.now ≡ take gate old.now
   second_front disk writing =
-      prefix disk.now (now_torn mid gate (open_gate ∷ []) (synced_settled (written old (gate + 1) (after_gate form)))
+      prefix disk.now (now_torn mid gate (open_gate ∷ []) (synced_stable (written old (gate + 1) (after_gate form)))
       (omega (arith, staged_long)) disk writing)
 
   pub second_behind : (disk : Disk) → IsWriting mid gate (open_gate ∷ []) disk → take (length (after_gate form)) (drop (gate + 1) disk.stable) ≡ after_gate form
@@ -124,18 +124,18 @@ module _ (old : Disk) (forms : List (List ℕ)) (gate : ℕ) (form : List ℕ) (
       ∙ take_at (after_gate form) (drop (gate + 1 + length (after_gate form)) old.now) (length (after_gate form)) refl
   second_behind disk (inr done) = ap (λ d. take (length (after_gate form)) (drop (gate + 1) d.stable)) done
       ∙ behind_stays (overwritten staged gate (open_gate ∷ []))
-      (whole_torn mid gate (open_gate ∷ []) (synced_settled (written old (gate + 1) (after_gate form))) (omega (arith, staged_long)))
+      (whole_torn mid gate (open_gate ∷ []) (synced_stable (written old (gate + 1) (after_gate form))) (omega (arith, staged_long)))
 
   pub second_done : (disk : Disk) → disk ≡ synced (written mid gate (open_gate ∷ [])) → IsJournalAtRest disk (forms ++ form ∷ []) (gate + 5 + length form)
   second_done disk done =
-      let torn = whole_torn mid gate (open_gate ∷ []) (synced_settled (written old (gate + 1) (after_gate form))) (omega (arith, staged_long)) in
+      let torn = whole_torn mid gate (open_gate ∷ []) (synced_stable (written old (gate + 1) (after_gate form))) (omega (arith, staged_long)) in
       let back = overwritten_back staged gate (open_gate ∷ []) (omega (arith, staged_long)) in
       let new = overwritten staged gate (open_gate ∷ []) in
       let gate_is : get_or new gate 0 ≡ open_gate =
       ap (λ (l : List ℕ). get_or l gate 0) (append_assoc (take gate staged) (open_gate ∷ []) (drop (gate + 1) staged))
       ∙ get_or_at (take gate staged) open_gate (drop (gate + 1) staged) 0 gate (omega (arith, length-take gate staged, staged_long)) in
       subst (λ d. IsJournalAtRest d (forms ++ form ∷ []) (gate + 5 + length form)) (sym done)
-      (record { settled = synced_settled (written mid gate (open_gate ∷ [])); ends = after new torn gate_is })
+      (record { stable = synced_stable (written mid gate (open_gate ∷ [])); ends = after new torn gate_is })
 
 pub is_short : (gate : ℕ) (form : List ℕ) → RecordFits gate (length form) → IsShort form
 is_short gate form fit = omega (arith, fit.short)

@@ -39,7 +39,7 @@ module _ (file : List ℕ) (forms : List (List ℕ)) (offset : ℕ) (ends : Ends
   pub stands : StandsFor file forms
   stands = elim (cases_lt 17 (length file)) [
     | inl longer ↦ inr (longer, (offset, ends))
-    | inr shorter ↦ inl (shorter, no_records forms (omega (arith, shorter, ends.in_file, ends.reads.place_is)))
+    | inr shorter ↦ inl (shorter, no_records forms (omega (arith, shorter, ends.in_file, ends.reads.offset_is)))
   ]
 
   -- another file that is the same up to its closed gate
@@ -48,7 +48,7 @@ module _ (file : List ℕ) (forms : List (List ℕ)) (offset : ℕ) (ends : Ends
     reads = record {
       prefix = sym (take-take offset (offset + 1) x (omega arith)) ∙ ap (λ (l : List ℕ). take offset l) same
           ∙ take-take offset (offset + 1) file (omega arith) ∙ ends.reads.prefix;
-      place_is = ends.reads.place_is;
+      offset_is = ends.reads.offset_is;
       sizes = ends.reads.sizes;
     };
     in_file = long;
@@ -79,7 +79,7 @@ module _ (file : List ℕ) (forms : List (List ℕ)) (offset : ℕ) (ends : Ends
           length-append (records forms) (record_of form),
           length-record_of form,
           length-header,
-          ends.reads.place_is,
+          ends.reads.offset_is,
         ) in
         let is = whole is_open in
         let gate : get_or x (offset + 5 + length form) 0 ≡ 0 =
@@ -89,7 +89,7 @@ module _ (file : List ℕ) (forms : List (List ℕ)) (offset : ℕ) (ends : Ends
           reads = record {
             prefix = ap (λ (l : List ℕ). take (offset + 5 + length form) l) is
                 ∙ take_at (header ++ records (forms ++ form ∷ [])) (0 ∷ rest) (offset + 5 + length form) size;
-            place_is = omega (arith, size, length-append header (records (forms ++ form ∷ [])), length-header);
+            offset_is = omega (arith, size, length-append header (records (forms ++ form ∷ [])), length-header);
             sizes = All-push IsShort forms form ends.reads.sizes short;
           };
           in_file = omega (arith, ap length is, length-append (header ++ records (forms ++ form ∷ [])) (0 ∷ rest), size);
@@ -99,7 +99,7 @@ module _ (file : List ℕ) (forms : List (List ℕ)) (offset : ℕ) (ends : Ends
 
     pub shut : get_or x offset 0 ≢ open_gate → EndsAt x forms offset
     shut closed = record {
-      reads = record { prefix = prefix ∙ ends.reads.prefix; place_is = ends.reads.place_is; sizes = ends.reads.sizes };
+      reads = record { prefix = prefix ∙ ends.reads.prefix; offset_is = ends.reads.offset_is; sizes = ends.reads.sizes };
       in_file = long;
       closed = closed;
       low = ends.low;

@@ -6,8 +6,8 @@ use Rattle.host_port.specs.Host.{Told, Disk, MayLeave, GoesOn, Throughout, Keeps
 use Rattle.host_port.proofs.Course.{carry_on, told_next, course_on, kept_now}
 use Rattle.commit_journal.specs.TornWrites.{IsStable, IsWriting}
 use Rattle.commit_journal.specs.Journal.{header, new_file, ReadsTo, EndsAt, StandsFor, StandsForSame, IsNoHeader, IsWalked, MountedFrom, IsAtMostSynced}
-use Rattle.commit_journal.proofs.Torn.{left_settled}
-use Rattle.commit_journal.proofs.Append.{synced_settled, left_torn}
+use Rattle.commit_journal.proofs.Torn.{left_stable}
+use Rattle.commit_journal.proofs.Append.{synced_stable, left_torn}
 use Rattle.commit_journal.proofs.Walking.{no_header}
 
 abbrev pub IsMounting : Disk → Disk → Type 0
@@ -15,7 +15,7 @@ IsMounting old disk = (disk ≡ old) ⊎ CrashLeaves (StandsForSame old.now) dis
 
 synced_leaves : (old disk : Disk) → disk ≡ synced old → IsMounting old disk
 synced_leaves old disk is = inr (λ x left.
-    let same = left_settled (synced old) x (synced_settled old) (subst (λ d. MayLeave d x) is left) in
+    let same = left_stable (synced old) x (synced_stable old) (subst (λ d. MayLeave d x) is left) in
     λ forms stands. subst (λ (l : List ℕ). StandsFor l forms) (sym same) stands)
 
 sync_leaves : (old disk : Disk) → (disk ≡ old) ⊎ (disk ≡ synced old) → IsMounting old disk
@@ -40,7 +40,7 @@ plain_is = refl
 
 header_leaves : (old disk : Disk) → length old.now ≤ 17 → IsWriting (synced old) 0 plain_file disk → IsMounting old disk
 header_leaves old disk short writing = inr (λ x left.
-    let torn = left_torn (synced old) 0 plain_file (synced_settled old) (omega arith) disk writing x left in
+    let torn = left_torn (synced old) 0 plain_file (synced_stable old) (omega arith) disk writing x left in
     short_same old.now x short (omega (arith, torn.no_longer)))
 
 over_short : (old : List ℕ) → length old ≤ 17 → overwritten old 0 plain_file ≡ new_file
@@ -55,7 +55,7 @@ unfolding new_file header
 gate_is_shut = refl
 
 pub new_reads : ReadsTo new_file [] 16
-new_reads = record { prefix = front_is; place_is = refl; sizes = λ k d low. absurd (omega arith) }
+new_reads = record { prefix = front_is; offset_is = refl; sizes = λ k d low. absurd (omega arith) }
 
 pub new_ends : EndsAt new_file [] 16
 new_ends = record {
@@ -115,11 +115,11 @@ module _ (a s l : Told) (sync_course : GoesOn a s) (sync_moments : Throughout a 
 
       pub read_walked : (head : List ℕ) → IsTrue a.tells → head ≡ take 16 (disk_now l).now → head ≡ header → IsWalked (disk_now e) [] 16
       read_walked head told is same = subst (λ d. IsWalked d [] 16) (sym (disk_at_read told)) (record {
-        settled = synced_settled (disk_now a);
+        stable = synced_stable (disk_now a);
         mounted = inl (length_is told);
         reads = record {
           prefix = sym (is ∙ ap (λ (d : Disk). take 16 d.now) (disk_at_len told)) ∙ same ∙ sym (append-nil header);
-          place_is = refl;
+          offset_is = refl;
           sizes = λ k d low. absurd (omega arith);
         };
       })
@@ -150,7 +150,7 @@ module _ (a s l : Told) (sync_course : GoesOn a s) (sync_moments : Throughout a 
 
       pub written_walked : IsTrue a.tells → IsWalked (disk_now e) [] 16
       written_walked told = record {
-        settled = subst IsStable (sym (disk_at_write told)) (synced_settled (written (synced (disk_now a)) 0 plain_file));
+        stable = subst IsStable (sym (disk_at_write told)) (synced_stable (written (synced (disk_now a)) 0 plain_file));
         mounted = inr (file_at_write told);
         reads = subst (λ (l : List ℕ). ReadsTo l [] 16) (sym (file_at_write told)) new_reads;
       }

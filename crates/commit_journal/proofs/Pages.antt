@@ -76,13 +76,13 @@ wrote_none a at bytes = record {
   now = λ told. sym (over_none (disk_now a).now at);
 }
 
-module _ (a b c : Told) (at offset n : ℕ) (bytes piece : List ℕ) (wrote : Wrote a b at bytes n) (place_is : offset ≡ at + n) (low : n ≤ length bytes)
+module _ (a b c : Told) (at offset n : ℕ) (bytes piece : List ℕ) (wrote : Wrote a b at bytes n) (offset_is : offset ≡ at + n) (low : n ≤ length bytes)
     (piece_is : piece ≡ take frame_size (drop n bytes)) (fits : IsTrue a.tells → at ≤ length (disk_now a).now)
     (course : GoesOn b c) (said : KeepsSaid b c) (input : KeepsInput b c) (alone : RaisesDiskAlone b c)
     (part : Throughout b c (λ disk said. WrittenPart (disk_now b) (span_of offset piece) disk)) where
   within : IsWithin (span_of at bytes) (span_of offset piece)
   within = let l = ap length piece_is in let t = length-take frame_size (drop n bytes) in let d = length-drop n bytes
-      in record { from = omega (arith, place_is); to = omega (arith, place_is, l, t, d, low) }
+      in record { from = omega (arith, offset_is); to = omega (arith, offset_is, l, t, d, low) }
 
   pub piece_during : Throughout a c (λ disk said. WrittenWithin (disk_now a) (span_of at bytes) disk)
   piece_during told = carry_on a b c (λ disk said. WrittenWithin (disk_now a) (span_of at bytes) disk) wrote.course course wrote.during
@@ -108,7 +108,7 @@ module _ (a b c : Told) (at offset n : ℕ) (bytes piece : List ℕ) (wrote : Wr
       ∙ ap (λ (l : List ℕ). take n bytes ++ l) (drop-take n frame_size bytes ∙ sym piece_is)
 
   place_at : offset ≡ at + length (take n bytes)
-  place_at = let t = length-take n bytes in omega (arith, place_is, t, low)
+  place_at = let t = length-take n bytes in omega (arith, offset_is, t, low)
 
   pub one_wrote : (IsTrue b.tells → disk_now c ≡ written (disk_now b) offset piece) → Wrote a c at bytes (n + frame_size)
   one_wrote whole = record {

@@ -1,4 +1,4 @@
--- What a crash leaves while a range of a settled file is written.
+-- What a crash leaves while a range of a stable file is written.
 use Rattle.std.proofs.Common.{◌≡◌, ◌⊎◌, inl, inr, ⊎_elim, ℕ, suc, ◌+◌, ◌<◌, ◌≤◌, max, List, [], ◌∷◌, length, take, drop, get_or, sym, ◌∙◌, ap, subst, arith}
 use Rattle.std.proofs.lemmas.List.{ext_get_or, drop_all, length-take, length-drop, get_or-take, get_or-drop}
 use Rattle.std.proofs.lemmas.List.Elements.{All-push, All-contains_itself}
@@ -50,12 +50,12 @@ more_within old mid disk span inner before part within = record {
     farther i (inl low) = inl (omega (arith, low, within.from))
     farther i (inr high) = inr (omega (arith, high, within.to))
 
-module _ (old disk : Disk) (span : Span) (x : List ℕ) (settled : IsStable old) (part : WrittenWithin old span disk) (left : MayLeave disk x) where
+module _ (old disk : Disk) (span : Span) (x : List ℕ) (stable : IsStable old) (part : WrittenWithin old span disk) (left : MayLeave disk x) where
   stable_is : disk.stable ≡ old.now
-  stable_is = part.stable ∙ sym settled.same
+  stable_is = part.stable ∙ sym stable.same
 
   inside : (range : Span) → Contains old.loose range ⊎ IsWithin span range → IsWithin span range
-  inside range (inl had) = absurd (none (subst (λ (l : List Span). Contains l range) settled.tight had))
+  inside range (inl had) = absurd (none (subst (λ (l : List Span). Contains l range) stable.tight had))
     where
       none : Contains [] range → ⊥
       none (k, low, here) = absurd (omega (arith, low))
@@ -80,12 +80,12 @@ module _ (old disk : Disk) (span : Span) (x : List ℕ) (settled : IsStable old)
   }
 
 -- after a sync a crash leaves what is read
-pub left_settled : (disk : Disk) (x : List ℕ) → IsStable disk → MayLeave disk x → x ≡ disk.now
-left_settled disk x settled left =
-    let same = settled.same in
-    let long : length x ≡ length disk.stable = omega (arith, left.no_shorter, left.no_longer, ap (furthest (length disk.stable)) settled.tight) in
+pub left_stable : (disk : Disk) (x : List ℕ) → IsStable disk → MayLeave disk x → x ≡ disk.now
+left_stable disk x stable left =
+    let same = stable.same in
+    let long : length x ≡ length disk.stable = omega (arith, left.no_shorter, left.no_longer, ap (furthest (length disk.stable)) stable.tight) in
     ext_get_or 0 x disk.stable long
-    (λ i below. left.kept i (omega (arith, long)) (subst (λ (l : List Span). All (λ (s : Span). IsOutside s i) l) (sym settled.tight) (none_at i)))
+    (λ i below. left.kept i (omega (arith, long)) (subst (λ (l : List Span). All (λ (s : Span). IsOutside s i) l) (sym stable.tight) (none_at i)))
     ∙ sym same
 
 module _ (at n : ℕ) (old x : List ℕ) (torn : Torn (record { from = at; to = at + n }) old x) where

@@ -75,7 +75,7 @@ one_reading file a b p q ends_a ends_b =
 -- what stands for some byte strings and ends after others stands for the same
 pub one_meaning : (file : List ℕ) (first forms : List (List ℕ)) (offset : ℕ) → StandsFor file first → EndsAt file forms offset → first ≡ forms
 one_meaning file first forms offset (inl short) ends =
-    short.1 ∙ sym (no_records forms (omega (arith, short.0, ends.in_file, ends.reads.place_is)))
+    short.1 ∙ sym (no_records forms (omega (arith, short.0, ends.in_file, ends.reads.offset_is)))
 one_meaning file first forms offset (inr long) ends = one_reading file first forms long.1.0 offset long.1.1 ends
 
 no_forms : (a b : List (List ℕ)) (s t : List ℕ) (base start : ℕ) → records a ++ s ≡ records b ++ t → start ≡ base + length (records a)
@@ -108,13 +108,13 @@ pub stuck_for_all : (file : List ℕ) (a b : List (List ℕ)) (p q : ℕ) → Re
 stuck_for_all file a b p q reads stuck ends =
     let in_file = ends.in_file in
     no_forms a b (drop p file) (drop q file) 16 p
-    (sym (behind_header file a p reads) ∙ behind_header file b q ends.reads) reads.place_is
+    (sym (behind_header file a p reads) ∙ behind_header file b q ends.reads) reads.offset_is
     (λ some. get_or-drop p file 0 0 ∙ ap (λ (k : ℕ). get_or file k 0) (let z : p + 0 ≡ p = omega arith in z)
     ∙ stuck.not_closed (omega (arith, some, length-drop p file)))
     stuck.no_record
     (omega (arith, in_file, length-drop q file))
     (λ e. ends.closed (ap (λ (k : ℕ). get_or file k 0) (let z : q ≡ q + 0 = omega arith in z) ∙ sym (get_or-drop q file 0 0) ∙ e))
-    reads.sizes ends.reads.sizes (omega (arith, ends.low, ends.reads.place_is))
+    reads.sizes ends.reads.sizes (omega (arith, ends.low, ends.reads.offset_is))
 
 -- a file in which a reading is stuck stands for nothing
 pub stuck_for_none : (file : List ℕ) (forms : List (List ℕ)) (offset : ℕ) → IsMounted file → ReadsTo file forms offset → IsStuck file offset
@@ -131,6 +131,6 @@ headless_for_none file at longer none forms (inr long) =
     let offset = long.1.0 in
     let reads = long.1.1.reads in
     let within = none.within in
-    let inside : at < long.1.0 = omega (arith, reads.place_is) in
+    let inside : at < long.1.0 = omega (arith, reads.offset_is) in
     none.differs (sym (get_or-take offset file at 0 inside) ∙ ap (λ (l : List ℕ). get_or l at 0) reads.prefix
     ∙ get_or_append_left header (records forms) 0 at (omega (arith, length-header)))

@@ -82,12 +82,12 @@ module _ (file : List ℕ) (gate : ℕ) where
 
   pub no_room : (size : ℕ) → get_or file gate 0 ≡ open_gate → take 4 (drop (gate + 1) file) ≡ four_bytes size → size < 2 ^ 32
       → ((size ≤ most_bytes) → (gate + 5 + size < 2 ^ 40) → length file < gate + 5 + size) → IsStuck file gate
-  no_room size is_open spelt low none = record {
+  no_room size is_open spelled low none = record {
     not_closed = λ below. is_open;
     no_record = λ form small below is.
         let long = within_file form is in
         let size_same : size ≡ length form =
-        sym (value_of-four_bytes size low) ∙ ap (from_be_bytes w32) (sym spelt ∙ field_is form is)
+        sym (value_of-four_bytes size low) ∙ ap (from_be_bytes w32) (sym spelled ∙ field_is form is)
         ∙ value_of-four_bytes (length form) (omega arith) in
         let past : length file < gate + 5 + size = none (omega (arith, size_same)) (omega (arith, size_same)) in
         absurd (omega (arith, size_same, long, past));
@@ -111,9 +111,9 @@ module _ (file : List ℕ) (gate : ℕ) where
         prefix = ap (λ (k : ℕ). take k file) offset ∙ take-add gate (5 + size) file ∙ ap (λ (l : List ℕ). l ++ take (5 + size) (drop gate file)) reads.prefix
             ∙ ap (λ (l : List ℕ). (header ++ records forms) ++ l) piece ∙ append_assoc header (records forms) (record_of form)
             ∙ ap (λ (l : List ℕ). header ++ l) (sym (records-push forms form));
-        place_is = omega (
+        offset_is = omega (
           arith,
-          reads.place_is,
+          reads.offset_is,
           ap length (records-push forms form),
           length-append (records forms) (record_of form),
           length-record_of form,

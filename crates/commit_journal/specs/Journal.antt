@@ -60,7 +60,7 @@ IsShort form = length form ≤ most_bytes
 -- the file begins with the header and the records of these byte strings, which end at an offset
 pub record ReadsTo (file : List ℕ) (forms : List (List ℕ)) (offset : ℕ) : Type 0 where
   pub prefix : take offset file ≡ header ++ records forms
-  pub place_is : offset ≡ first_gate + length (records forms)
+  pub offset_is : offset ≡ first_gate + length (records forms)
   pub sizes : All IsShort forms
 
 -- and there stands a closed gate
@@ -122,13 +122,13 @@ IsAtMostSynced entry disk = (disk ≡ entry) ⊎ (disk ≡ synced entry)
 
 -- a file while it is read: all of it is stable, and it reads as these byte strings up to an offset
 pub record IsWalked (disk : Disk) (forms : List (List ℕ)) (offset : ℕ) : Type 0 where
-  pub settled : IsStable disk
+  pub stable : IsStable disk
   pub mounted : IsMounted disk.now
   pub reads : ReadsTo disk.now forms offset
 
 -- a journal's file between two calls: all of it is stable, and its records are those of the byte strings
 pub record IsJournalAtRest (disk : Disk) (forms : List (List ℕ)) (end : ℕ) : Type 0 where
-  pub settled : IsStable disk
+  pub stable : IsStable disk
   pub ends : EndsAt disk.now forms end
 
 -- the byte at the gate is as it was and isn't loose, or what stands after it is stable

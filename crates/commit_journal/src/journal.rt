@@ -90,7 +90,7 @@ impl Journal {
         ensures same { OnErr result (SameFrames pool.old pool.new) }
         ensures err { OnErr result (out_of pool.new ≡ out_of pool.old) }
     {
-        let mut bytes = Vec::new(alloc);
+        let mut bytes = Vec::with_capacity(alloc, form.len() + 5)?;
         bytes.extend_from_slice(&length_field(form.len() as u32))?;
         bytes.extend_from_slice(form)?;
         bytes.push(0)?;

@@ -49,7 +49,7 @@ fn first_difference(head: &[u8; 16]) -> Option<u64>
 
 // The number in a field of four bytes.
 fn number_in(field: &[u8; 4]) -> u32
-    ensures spelt { four_bytes result ≡ field.now }
+    ensures spelled { four_bytes result ≡ field.now }
     ensures low { result < 2 ^ 32 }
 {
     u32::from_be_bytes(*field)

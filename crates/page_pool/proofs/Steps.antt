@@ -1,5 +1,5 @@
 -- What each call of a pool does, where the fields are those of the value.
-use Rattle.std.proofs.Common.{◌≡◌, ℕ, ◌<◌, List, [], ◌∷◌, ◌++◌, length, get_or, set, sym, ap, subst, ◌∙◌, arith}
+use Rattle.std.proofs.Common.{◌≡◌, ℕ, ◌<◌, List, [], ◌∷◌, ◌++◌, length, get_or, set, refl, sym, ap, subst, ◌∙◌, arith}
 use Rattle.std.specs.Prelude.{Option, None, Some, IfSome}
 use Rattle.std.proofs.lemmas.List.{get_or_default}
 use Rattle.page_pool.specs.Frames.{Frames, frame_at, IsOut, Changes, IsTaken, IsGiven, IsWritten, overwritten, zeros, pool_limit}
@@ -93,6 +93,15 @@ module _ (ps qs : Frames) (k j : ℕ) (view : qs ≡ ps) (same : j ≡ k) (out :
       subst (λ (o : Option (List ℕ)). IfSome o (λ old. IsWritten ps (set qs j (Some new)) k (overwritten old at bytes)))
       (sym (read_at ps qs k j x view same out read ∙ is))
       (subst (λ (b : List ℕ). IsWritten ps (set qs j (Some new)) k b) over (is_written new))
+
+  -- what is written where the frame stands
+  pub is_changed : (x y : Option (List ℕ)) (at : ℕ) (bytes : List ℕ) → x ≡ get_or qs j x → IfSome x (λ old. y ≡ Some (overwritten old at bytes))
+      → (c : List ℕ) × (y ≡ Some c) × IfSome (frame_at ps k) (λ old. IsWritten ps (set qs j (Some c)) k (overwritten old at bytes))
+  is_changed x y at bytes read over =
+      let b = bytes_of ps k out in
+      let is : x ≡ Some b.0 = sym (read_at ps qs k j x view same out read) ∙ b.1 in
+      let c : List ℕ = overwritten b.0 at bytes in
+      (c, subst (λ (o : Option (List ℕ)). IfSome o (λ old. y ≡ Some (overwritten old at bytes))) is over, is_overwritten x b.0 c at bytes read is refl)
 
 -- one more free frame
 pub one_more : (ps ps' : Frames) (free free' : List ℕ) (n cap cap' : ℕ) → IsSound ps free cap → ps' ≡ ps ++ None ∷ [] → free' ≡ free ++ n ∷ []

@@ -4,6 +4,7 @@
 mod fault;
 mod paged;
 mod pool;
+mod slot;
 
 pub use fault::PoolFault;
 pub use paged::{PagedBytes, Room, count_frames};

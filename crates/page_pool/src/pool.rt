@@ -1,9 +1,10 @@
 //! One region of frames: which of them are out, and the bytes of each that is.
 ghost use Rattle.std.specs.Prelude.{ℕ, ◌≡◌, ◌+◌, ◌<◌, ◌≤◌, ◌↔◌, max, [], length, Some, IfSome, IfNone, OnOk, OnErr, vec_len, vec_capacity, Err};
-ghost use Rattle.page_pool.specs.Frames.{frame_at, out_of, free_of, IsOut, SameFrames, IsTaken, IsGiven, IsWritten, overwritten, zeros, frame_size, pool_limit};
+ghost use Rattle.page_pool.specs.Frames.{frame_at, out_of, free_of, IsOut, SameFrames, IsTaken, IsGiven, IsWritten, overwritten, frame_size, pool_limit};
 ghost use Rattle.page_pool.specs.Region.{IsSound};
 
 use crate::fault::PoolFault;
+use crate::slot::Slot;
 use std::alloc::Global;
 use std::marker::Model;
 
@@ -28,7 +29,7 @@ impl Model for Frame {
 /// One region of frames. Contracts see the frames by their numbers: the bytes of each that is out, and which are free.
 #[derive(Drop)]
 pub struct Pool {
-    slots: Vec<Option<[u8; FRAME_SIZE]>>,
+    slots: Vec<Slot>,
     free: Vec<u32>,
 }
 
@@ -43,23 +44,8 @@ impl Model for Pool {
     ghost invariant = { λ p. IsSound p.slots.items p.free.items (vec_capacity p.free) };
 }
 
-// The bytes of a frame that was just taken.
-fn blank() -> [u8; FRAME_SIZE]
-    ensures { result ≡ zeros }
-{
-    [0; FRAME_SIZE]
-}
-
-// Writes over a part of a frame.
-fn overwrite(page: &mut [u8; FRAME_SIZE], at: usize, bytes: &[u8])
-    requires { at + length bytes.now ≤ frame_size }
-    ensures { page.new ≡ overwritten page.old at bytes.now }
-{
-    page[at..at + bytes.len()].copy_from_slice(bytes);
-}
-
 // Adds free frames, for which there is room.
-fn lengthen(slots: &mut Vec<Option<[u8; FRAME_SIZE]>>, free: &mut Vec<u32>, more: usize)
+fn lengthen(slots: &mut Vec<Slot>, free: &mut Vec<u32>, more: usize)
     requires sound { IsSound slots.old.items free.old.items (vec_capacity free.old) }
     requires few { vec_len slots.old + more ≤ pool_limit }
     requires slots { vec_len slots.old + more ≤ vec_capacity slots.old }
@@ -71,7 +57,7 @@ fn lengthen(slots: &mut Vec<Option<[u8; FRAME_SIZE]>>, free: &mut Vec<u32>, more
 {
     for _ in 0..more {
         let number = slots.len() as u32;
-        slots.push_reserved(None);
+        slots.push_reserved(Slot::new());
         free.push_reserved(number);
     }
 }
@@ -124,7 +110,7 @@ impl Pool {
         ensures same { IfNone result (self.new ≡ self.old) }
     {
         let number = self.free.pop()?;
-        self.slots[number as usize] = Some(blank());
+        self.slots[number as usize].take();
         Some(Frame { number })
     }
 
@@ -134,7 +120,7 @@ impl Pool {
         ensures given { IsGiven self.old self.new frame }
     {
         let number = frame.number;
-        self.slots[number as usize] = None;
+        self.slots[number as usize].give();
         self.free.push_reserved(number);
     }
 
@@ -144,10 +130,7 @@ impl Pool {
         requires range { at + length bytes.now ≤ frame_size }
         ensures written { IfSome (frame_at self.old frame.now) (λ old. IsWritten self.old self.new frame.now (overwritten old at bytes.now)) }
     {
-        match &mut self.slots[frame.number as usize] {
-            Some(page) => overwrite(page, at as usize, bytes),
-            None => unreachable!(),
-        }
+        self.slots[frame.number as usize].write(at as usize, bytes);
     }
 
     /// The bytes of a frame.
@@ -156,7 +139,7 @@ impl Pool {
         ensures bytes { frame_at self.now frame.now ≡ Some result.now }
         ensures size { length result.now ≡ frame_size }
     {
-        match &self.slots[frame.number as usize] {
+        match self.slots[frame.number as usize].page() {
             Some(page) => page,
             None => unreachable!(),
         }

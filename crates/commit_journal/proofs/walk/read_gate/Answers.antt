@@ -30,9 +30,9 @@ returns-then-not-has_room-clause-broken g c = λ is told.
     let same = kept_now a b c.len.ensures.course c.len.ensures.disk told in
     let head : c.read_at-2.new.into ≡ take 5 (drop c.args.gate (disk_now (g.H.Host.told c.args.host.now)).now) =
     c.in_ok-read_at-2.ensures.bytes told_b ∙ ap (λ (s : Disk). take 5 (drop gate s.now)) same in
-    let spelt = sym (length_is file gate c.read_at-2.new.into head (omega (arith, long, c.if-length-gate-lt5.false, c.if-length-gate.false)))
-    ∙ sym c.number_in.ensures.spelt ∙ ap four_bytes (sym c.from-size.ensures) in
-    no_room file gate c.from-size.result (gate_is file gate 5 c.read_at-2.new.into head (omega arith) ∙ c.if-head.false) spelt
+    let spelled = sym (length_is file gate c.read_at-2.new.into head (omega (arith, long, c.if-length-gate-lt5.false, c.if-length-gate.false)))
+    ∙ sym c.number_in.ensures.spelled ∙ ap four_bytes (sym c.from-size.ensures) in
+    no_room file gate c.from-size.result (gate_is file gate 5 c.read_at-2.new.into head (omega arith) ∙ c.if-head.false) spelled
     (omega (arith, c.from-size.ensures, c.number_in.ensures.low))
     (λ small below. omega (arith, long, c.if-not-has_room.ensures.none small below))
 
@@ -47,11 +47,11 @@ returns-clause-open g c = λ size is told.
     let same = kept_now a b c.len.ensures.course c.len.ensures.disk told in
     let head : c.read_at-2.new.into ≡ take 5 (drop c.args.gate (disk_now (g.H.Host.told c.args.host.now)).now) =
     c.in_ok-read_at-2.ensures.bytes told_b ∙ ap (λ (s : Disk). take 5 (drop gate s.now)) same in
-    let spelt = sym (length_is file gate c.read_at-2.new.into head (omega (arith, long, c.if-length-gate-lt5.false, c.if-length-gate.false)))
-    ∙ sym c.number_in.ensures.spelt ∙ ap four_bytes (sym c.from-size.ensures) in
+    let spelled = sym (length_is file gate c.read_at-2.new.into head (omega (arith, long, c.if-length-gate-lt5.false, c.if-length-gate.false)))
+    ∙ sym c.number_in.ensures.spelled ∙ ap four_bytes (sym c.from-size.ensures) in
     let same_size : c.from-size.result ≡ size = cc in
     subst (λ (n : ℕ). IsOpen file gate n) same_size (record {
       opened = gate_is file gate 5 c.read_at-2.new.into head (omega arith) ∙ c.if-head.false;
-      length_is = spelt;
+      length_is = spelled;
       whole = omega (arith, long, c.if-not-has_room.ensures.room);
     })

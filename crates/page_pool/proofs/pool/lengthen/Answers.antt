@@ -1,4 +1,4 @@
-use Rattle.std.proofs.Common.{◌≡◌, ◌<◌, length, ap, ◌∙◌, arith, vec_capacity}
+use Rattle.std.proofs.Common.{◌≡◌, ◌<◌, ℕ, List, [], ◌∷◌, ◌++◌, Option, length, ap, ◌∙◌, arith, vec_capacity}
 use Rattle.page_pool.specs.Frames.{Frames, frame_at, out_of, free_of, pool_limit}
 use Rattle.page_pool.proofs.Slots.{counted, longer}
 use Rattle.page_pool.proofs.Steps.{one_more}
@@ -11,7 +11,7 @@ push_reserved-requires-in-loop c = let s = c.loop.invariant.sound.count in let n
 pub loop-preserved : goal.loop-preserved
 loop-preserved c =
     let i = c.loop.invariant in
-    let is = c.push_reserved.ensures.items in
+    let is = c.push_reserved.ensures.items ∙ ap (λ (o : Option (List ℕ)). c.loop.slots.items ++ o ∷ []) c.new.ensures in
     let more = longer c.loop.slots.items in
     let few : length c.loop.slots.items < pool_limit = omega (arith, i.size) in
     let room : length c.loop.slots.items < vec_capacity c.loop.free = omega (arith, i.size, i.free_capacity) in

@@ -17,38 +17,38 @@ pub returns-in_err-done-clause-any_moment : goal.returns-in_err-done-clause-any_
 returns-in_err-done-clause-any_moment g c = λ form held.
     let old = g.H.Host.told c.args.host.now in
     let behind = g.H.Host.told c.write_pages-done.new.host in
-    let spelt = bytes_of c.args.pool.now c.args.prepared c.prepared.inside.paged form c.prepared.view_is held in
+    let spelled = bytes_of c.args.pool.now c.args.prepared c.prepared.inside.paged form c.prepared.view_is held in
     let fits = fits_held c.args.pool.now c.args.prepared c.args.self.now.end c.requires.ready form held in
     one_any_moment old behind c.args.self.now.end c.self.inside.end form (content c.args.pool.now c.prepared.inside.paged) (ap end_of c.self.view_is)
-    spelt fits c.write_pages-done.ensures.during
+    spelled fits c.write_pages-done.ensures.during
 
 pub returns-in_err-done-clause-prefix : goal.returns-in_err-done-clause-prefix
 returns-in_err-done-clause-prefix g c =
     let old = g.H.Host.told c.args.host.now in
     let behind = g.H.Host.told c.write_pages-done.new.host in
-    let spelt = bytes_of c.args.pool.now c.args.prepared c.prepared.inside.paged c.requires.ready.0 c.prepared.view_is c.requires.ready.1 in
+    let spelled = bytes_of c.args.pool.now c.args.prepared c.prepared.inside.paged c.requires.ready.0 c.prepared.view_is c.requires.ready.1 in
     let fits = fits_held c.args.pool.now c.args.prepared c.args.self.now.end c.requires.ready c.requires.ready.0 c.requires.ready.1 in
     one_front old behind c.args.self.now.end c.self.inside.end c.requires.ready.0 (content c.args.pool.now c.prepared.inside.paged)
-    (ap end_of c.self.view_is) spelt fits c.write_pages-done.ensures.during c.requires.at_rest
+    (ap end_of c.self.view_is) spelled fits c.write_pages-done.ensures.during c.requires.at_rest
 
 pub returns-in_err-done-clause-gate_last : goal.returns-in_err-done-clause-gate_last
 returns-in_err-done-clause-gate_last g c = λ form held.
     let old = g.H.Host.told c.args.host.now in
     let behind = g.H.Host.told c.write_pages-done.new.host in
-    let spelt = bytes_of c.args.pool.now c.args.prepared c.prepared.inside.paged form c.prepared.view_is held in
+    let spelled = bytes_of c.args.pool.now c.args.prepared c.prepared.inside.paged form c.prepared.view_is held in
     let fits = fits_held c.args.pool.now c.args.prepared c.args.self.now.end c.requires.ready form held in
     one_gate_last old behind c.args.self.now.end c.self.inside.end form (content c.args.pool.now c.prepared.inside.paged) (ap end_of c.self.view_is)
-    spelt fits c.write_pages-done.ensures.during c.requires.at_rest
+    spelled fits c.write_pages-done.ensures.during c.requires.at_rest
 
 pub returns-in_err-write_durably-clause-any_moment : goal.returns-in_err-write_durably-clause-any_moment
 returns-in_err-write_durably-clause-any_moment g c = λ form held.
     let old = g.H.Host.told c.args.host.now in
     let behind = g.H.Host.told c.write_pages-done.new.host in
     let new = g.H.Host.told c.write_durably.new.host in
-    let spelt = bytes_of c.args.pool.now c.args.prepared c.prepared.inside.paged form c.prepared.view_is held in
+    let spelled = bytes_of c.args.pool.now c.args.prepared c.prepared.inside.paged form c.prepared.view_is held in
     let fits = fits_held c.args.pool.now c.args.prepared c.args.self.now.end c.requires.ready form held in
     two_any_moment old behind c.args.self.now.end c.self.inside.end form (content c.args.pool.now c.prepared.inside.paged) (ap end_of c.self.view_is)
-    spelt fits c.write_pages-done.ensures.during new c.write_pages-done.ensures.course c.write_durably.ensures.course c.in_ok-done.ensures.done
+    spelled fits c.write_pages-done.ensures.during new c.write_pages-done.ensures.course c.write_durably.ensures.course c.in_ok-done.ensures.done
     c.write_durably.ensures.during
 
 pub returns-in_err-write_durably-clause-prefix : goal.returns-in_err-write_durably-clause-prefix
@@ -56,10 +56,10 @@ returns-in_err-write_durably-clause-prefix g c =
     let old = g.H.Host.told c.args.host.now in
     let behind = g.H.Host.told c.write_pages-done.new.host in
     let new = g.H.Host.told c.write_durably.new.host in
-    let spelt = bytes_of c.args.pool.now c.args.prepared c.prepared.inside.paged c.requires.ready.0 c.prepared.view_is c.requires.ready.1 in
+    let spelled = bytes_of c.args.pool.now c.args.prepared c.prepared.inside.paged c.requires.ready.0 c.prepared.view_is c.requires.ready.1 in
     let fits = fits_held c.args.pool.now c.args.prepared c.args.self.now.end c.requires.ready c.requires.ready.0 c.requires.ready.1 in
     two_front old behind c.args.self.now.end c.self.inside.end c.requires.ready.0 (content c.args.pool.now c.prepared.inside.paged)
-    (ap end_of c.self.view_is) spelt fits c.write_pages-done.ensures.during new c.write_pages-done.ensures.course c.write_durably.ensures.course
+    (ap end_of c.self.view_is) spelled fits c.write_pages-done.ensures.during new c.write_pages-done.ensures.course c.write_durably.ensures.course
     c.in_ok-done.ensures.done c.write_durably.ensures.during c.requires.at_rest
 
 pub returns-in_err-write_durably-clause-gate_last : goal.returns-in_err-write_durably-clause-gate_last
@@ -67,10 +67,10 @@ returns-in_err-write_durably-clause-gate_last g c = λ form held.
     let old = g.H.Host.told c.args.host.now in
     let behind = g.H.Host.told c.write_pages-done.new.host in
     let new = g.H.Host.told c.write_durably.new.host in
-    let spelt = bytes_of c.args.pool.now c.args.prepared c.prepared.inside.paged form c.prepared.view_is held in
+    let spelled = bytes_of c.args.pool.now c.args.prepared c.prepared.inside.paged form c.prepared.view_is held in
     let fits = fits_held c.args.pool.now c.args.prepared c.args.self.now.end c.requires.ready form held in
     two_gate_last old behind c.args.self.now.end c.self.inside.end form (content c.args.pool.now c.prepared.inside.paged) (ap end_of c.self.view_is)
-    spelt fits c.write_pages-done.ensures.during new c.write_pages-done.ensures.course c.write_durably.ensures.course c.in_ok-done.ensures.done
+    spelled fits c.write_pages-done.ensures.during new c.write_pages-done.ensures.course c.write_durably.ensures.course c.in_ok-done.ensures.done
     c.write_durably.ensures.during c.requires.at_rest
 
 pub returns-clause-any_moment : goal.returns-clause-any_moment
@@ -78,10 +78,10 @@ returns-clause-any_moment g c = λ form held.
     let old = g.H.Host.told c.args.host.now in
     let behind = g.H.Host.told c.write_pages-done.new.host in
     let new = g.H.Host.told c.write_durably.new.host in
-    let spelt = bytes_of c.args.pool.now c.args.prepared c.prepared.inside.paged form c.prepared.view_is held in
+    let spelled = bytes_of c.args.pool.now c.args.prepared c.prepared.inside.paged form c.prepared.view_is held in
     let fits = fits_held c.args.pool.now c.args.prepared c.args.self.now.end c.requires.ready form held in
     two_any_moment old behind c.args.self.now.end c.self.inside.end form (content c.args.pool.now c.prepared.inside.paged) (ap end_of c.self.view_is)
-    spelt fits c.write_pages-done.ensures.during new c.write_pages-done.ensures.course c.write_durably.ensures.course c.in_ok-done.ensures.done
+    spelled fits c.write_pages-done.ensures.during new c.write_pages-done.ensures.course c.write_durably.ensures.course c.in_ok-done.ensures.done
     c.write_durably.ensures.during
 
 pub returns-clause-prefix : goal.returns-clause-prefix
@@ -89,10 +89,10 @@ returns-clause-prefix g c =
     let old = g.H.Host.told c.args.host.now in
     let behind = g.H.Host.told c.write_pages-done.new.host in
     let new = g.H.Host.told c.write_durably.new.host in
-    let spelt = bytes_of c.args.pool.now c.args.prepared c.prepared.inside.paged c.requires.ready.0 c.prepared.view_is c.requires.ready.1 in
+    let spelled = bytes_of c.args.pool.now c.args.prepared c.prepared.inside.paged c.requires.ready.0 c.prepared.view_is c.requires.ready.1 in
     let fits = fits_held c.args.pool.now c.args.prepared c.args.self.now.end c.requires.ready c.requires.ready.0 c.requires.ready.1 in
     two_front old behind c.args.self.now.end c.self.inside.end c.requires.ready.0 (content c.args.pool.now c.prepared.inside.paged)
-    (ap end_of c.self.view_is) spelt fits c.write_pages-done.ensures.during new c.write_pages-done.ensures.course c.write_durably.ensures.course
+    (ap end_of c.self.view_is) spelled fits c.write_pages-done.ensures.during new c.write_pages-done.ensures.course c.write_durably.ensures.course
     c.in_ok-done.ensures.done c.write_durably.ensures.during c.requires.at_rest
 
 pub returns-clause-gate_last : goal.returns-clause-gate_last
@@ -100,10 +100,10 @@ returns-clause-gate_last g c = λ form held.
     let old = g.H.Host.told c.args.host.now in
     let behind = g.H.Host.told c.write_pages-done.new.host in
     let new = g.H.Host.told c.write_durably.new.host in
-    let spelt = bytes_of c.args.pool.now c.args.prepared c.prepared.inside.paged form c.prepared.view_is held in
+    let spelled = bytes_of c.args.pool.now c.args.prepared c.prepared.inside.paged form c.prepared.view_is held in
     let fits = fits_held c.args.pool.now c.args.prepared c.args.self.now.end c.requires.ready form held in
     two_gate_last old behind c.args.self.now.end c.self.inside.end form (content c.args.pool.now c.prepared.inside.paged) (ap end_of c.self.view_is)
-    spelt fits c.write_pages-done.ensures.during new c.write_pages-done.ensures.course c.write_durably.ensures.course c.in_ok-done.ensures.done
+    spelled fits c.write_pages-done.ensures.during new c.write_pages-done.ensures.course c.write_durably.ensures.course c.in_ok-done.ensures.done
     c.write_durably.ensures.during c.requires.at_rest
 
 pub returns-clause-ok : goal.returns-clause-ok
@@ -118,12 +118,12 @@ returns-clause-added g c = λ told form held forms at_rest.
     let old = g.H.Host.told c.args.host.now in
     let behind = g.H.Host.told c.write_pages-done.new.host in
     let new = g.H.Host.told c.write_durably.new.host in
-    let spelt = bytes_of c.args.pool.now c.args.prepared c.prepared.inside.paged form c.prepared.view_is held in
+    let spelled = bytes_of c.args.pool.now c.args.prepared c.prepared.inside.paged form c.prepared.view_is held in
     let fits = fits_held c.args.pool.now c.args.prepared c.args.self.now.end c.requires.ready form held in
     let new_end : c.self.inside.end + c.len-length.result ≡ c.args.self.now.end + 5 + length form = omega
     (arith, ap end_of c.self.view_is, ap size_of c.prepared.view_is, length-after_gate form, c.len-length.ensures, held.size) in
     subst (λ (n : ℕ). IsJournalAtRest (disk_now new) (forms ++ form ∷ []) n) (sym new_end)
-    (added old behind c.args.self.now.end c.self.inside.end form (content c.args.pool.now c.prepared.inside.paged) (ap end_of c.self.view_is) spelt
+    (added old behind c.args.self.now.end c.self.inside.end form (content c.args.pool.now c.prepared.inside.paged) (ap end_of c.self.view_is) spelled
     fits c.write_pages-done.ensures.during new c.write_pages-done.ensures.course c.write_durably.ensures.course c.in_ok-done.ensures.done
     c.write_durably.ensures.during c.in_ok-write_durably.ensures.done told forms at_rest)
 

@@ -68,7 +68,7 @@ returns-in_ok-read_at-in-Open-clause-walked g c = λ told forms walked.
       at_gate.whole,
     )) in
     record {
-      settled = subst IsStable (sym same_d) walked.settled;
+      stable = subst IsStable (sym same_d) walked.stable;
       mounted = subst (λ (s : Disk). IsMounted s.now) (sym same_d) walked.mounted;
       reads = subst (λ (s : Disk).
           ReadsTo s.now (forms ++ take c.in_ok-form-in-Open.form.len

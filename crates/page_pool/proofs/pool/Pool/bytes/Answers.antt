@@ -10,9 +10,9 @@ index-requires c = let w =
 pub unreachable-requires : goal.unreachable-requires
 unreachable-requires c =
     not_none c.args.self.now c.self.inside.slots.items c.args.frame.now c.frame.inside.number c.index.result.now c.self.view_is c.frame.view_is
-    c.requires.out c.index.ensures c.in-None.is
+    c.requires.out c.index.ensures c.in-None.ensures.none
 
 pub returns-clause-bytes : goal.returns-clause-bytes
 returns-clause-bytes c =
     read_at c.args.self.now c.self.inside.slots.items c.args.frame.now c.frame.inside.number c.index.result.now c.self.view_is c.frame.view_is
-    c.requires.out c.index.ensures ∙ c.in-Some.is
+    c.requires.out c.index.ensures ∙ c.in-Some.ensures.some
