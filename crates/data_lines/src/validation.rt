@@ -105,7 +105,7 @@ fn lower_in(feature: &Feature) -> u64
 {
     match &feature.kind {
         Kind::Skip => 0,
-        _ => feature.lower as u64,
+        _ => feature.lower,
     }
 }
 

@@ -1,12 +1,12 @@
 -- Kinds agree with bounds, and bounds are in order, where a document has no fault.
-use Rattle.std.proofs.Common.{◌≡◌, ℕ, ℤ, zero, suc, pos, negsuc, ◌≤◌, min, Bool, true, false, cond, not, ◌||◌, ◌&&◌, List, [], ◌∷◌, nat_eq, refl, sym}
+use Rattle.std.proofs.Common.{◌≡◌, ℕ, ℤ, zero, suc, pos, negsuc, ◌≤◌, Bool, true, false, cond, not, ◌||◌, ◌&&◌, List, [], ◌∷◌, nat_eq, refl, sym}
 use Rattle.std.proofs.Common.{ap, subst, arith, map, rules}
 use Rattle.std.specs.Prelude.{Option, None, Some, int_lt, nat_lt, slice_get}
 use Rattle.std.specs.List.{list_any}
 use Rattle.std.specs.Ordering.{int_eq}
 use Rattle.std.proofs.lemmas.Bool.{or_parts}
 use Rattle.std.proofs.lemmas.Bool.Decides.{Decides-int_eq}
-use Rattle.ecore_build.specs.Build.{container, default_in, end_number, feature_from, kind_in, meta_of, natural, plain, reference, greatest_bound}
+use Rattle.ecore_build.specs.Build.{container, default_in, end_number, feature_from, kind_in, meta_of, natural, plain, reference}
 use Rattle.ecore_build.specs.Faults.{bad_bound, bad_bounds, contains_back, enums_in, fault, is_missing, is_skipped, is_unsupported}
 use Rattle.ecore_build.proofs.NoFault.{fails_at, passes}
 use Rattle.ecore_drafts.specs.Document.{lacks_super}
@@ -34,9 +34,6 @@ upper_in u = cond (int_eq u (negsuc 0)) None (Some (natural u))
 not_less : (m n : ℕ) → nat_lt n m ≡ false → m ≤ n
 not_less m n h = search rules
 
-in_order : (l u top : ℕ) → 1 ≤ top → l ≤ u → 1 ≤ u → (1 ≤ min u top) × (min l top ≤ min u top)
-in_order l u top h k m = (omega arith, omega arith)
-
 not_same : (x y : ℤ) → (x ≡ y → ⊥) → int_eq x y ≡ false
 not_same x y apart = by_test (int_eq x y) refl
   where
@@ -55,7 +52,7 @@ ordered (pos m) (negsuc zero) h k = tt
 ordered (pos m) (negsuc (suc n)) h k =
     absurd (refused (int_eq (negsuc (suc n)) (negsuc 0)) (int_lt (negsuc (suc n)) (pos m)) (not_same (negsuc (suc n)) (negsuc 0) (λ e. cc)) k)
 ordered (pos m) (pos n) h k = let parts = or_parts (nat_lt n 1) (nat_lt n m) k
-    in in_order m n greatest_bound (omega arith) (not_less m n parts.1) (not_less 1 n parts.0)
+    in (not_less 1 n parts.0, not_less m n parts.1)
 
 one_upper : (u : ℤ) → int_eq u (pos 1) ≡ true → upper_in u ≡ Some 1
 one_upper u h = subst (λ z. upper_in z ≡ Some 1) (sym ((Decides-int_eq u (pos 1)).0 h)) refl
@@ -75,10 +72,7 @@ many_upper : (u : ℤ) → int_eq u (pos 1) ≡ false → not (is_one (upper_in 
 many_upper (negsuc n) h = none_or_zero (int_eq (negsuc n) (negsuc 0))
 many_upper (pos zero) h = refl
 many_upper (pos (suc zero)) h = cc
-many_upper (pos (suc (suc n))) h = ap not (more_than_one (min (suc (suc n)) greatest_bound) (least n greatest_bound (omega arith)))
-  where
-    least : (n top : ℕ) → 2 ≤ top → 2 ≤ min (suc (suc n)) top
-    least n top h = omega arith
+many_upper (pos (suc (suc n))) h = ap not (more_than_one (suc (suc n)) (omega arith))
 
 -- ---- kinds
 plain_agrees : (e : Bool) (c n : ℕ) (o : Option ℕ) → agrees (cond e (Free c o) (Bounded c o)) (cond e None (Some n)) ≡ true

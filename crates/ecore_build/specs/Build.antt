@@ -1,5 +1,5 @@
 -- The metamodel that a document without a fault stands for.
-use Rattle.std.specs.Prelude.{IsTrue, ◌↔◌, ℕ, ℤ, pos, negsuc, min, ◌<◌, List, Option, None, Some, map, length, cond}
+use Rattle.std.specs.Prelude.{IsTrue, ◌↔◌, ℕ, ℤ, pos, negsuc, ◌<◌, List, Option, None, Some, map, length, cond}
 use Rattle.std.specs.List.{enumerate_from}
 use Rattle.std.specs.Ordering.{int_eq}
 use Rattle.ecore_drafts.specs.Document.{ClassifierRows, classes_of, supers_in}
@@ -23,13 +23,9 @@ use Rattle.ecore_meta.specs.declared.meta.Value.{Value}
 use Rattle.ecore_drafts.specs.declared.rows.MetaRows.{MetaRows}
 use Rattle.ecore_drafts.specs.declared.rows.ClassRow.{ClassRow}
 
--- the greatest bound that a feature holds
-abbrev pub greatest_bound : ℕ
-greatest_bound = 4294967295
-
--- a bound as a natural number, the greatest that a feature holds where it is greater
+-- a bound as a natural number, 0 for a negative one
 abbrev pub natural : ℤ → ℕ
-natural (pos n) = min n greatest_bound
+natural (pos n) = n
 natural (negsuc n) = 0
 
 -- the number of the opposite, where there is one

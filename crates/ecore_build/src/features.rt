@@ -135,20 +135,11 @@ pub(crate) fn any_bad_default(
     Ok(false)
 }
 
-/// The greatest bound that a feature holds.
-const GREATEST_BOUND: i64 = 4_294_967_295;
-
-/// A bound as a natural number, the greatest that a feature holds where it is greater.
-fn natural(bound: i64) -> u32
+/// A bound as a natural number, 0 for a negative one.
+fn natural(bound: i64) -> u64
     ensures { result ≡ natural bound }
 {
-    if bound < 0 {
-        0
-    } else if bound > GREATEST_BOUND {
-        u32::MAX
-    } else {
-        bound as u32
-    }
+    if bound < 0 { 0 } else { bound as u64 }
 }
 
 /// The number of the opposite, where there is one.
@@ -250,7 +241,7 @@ fn kind(
 }
 
 /// The lower bound; that of a skipped feature is 0.
-fn lower(draft: &FeatureDraft) -> u32
+fn lower(draft: &FeatureDraft) -> u64
     ensures { result ≡ lower_from draft.now }
 {
     if is_skipped(&draft.target) {
@@ -261,7 +252,7 @@ fn lower(draft: &FeatureDraft) -> u32
 }
 
 /// The upper bound, `None` where there is none; that of a skipped feature is 1.
-fn upper(draft: &FeatureDraft) -> Option<u32>
+fn upper(draft: &FeatureDraft) -> Option<u64>
     ensures { result ≡ upper_from draft.now }
 {
     if is_skipped(&draft.target) {

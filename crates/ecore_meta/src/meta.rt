@@ -71,9 +71,9 @@ pub struct Feature {
     /// The class that declares it.
     pub owner: u32,
     pub name: Text,
-    pub lower: u32,
+    pub lower: u64,
     /// The most values, `None` for no bound.
-    pub upper: Option<u32>,
+    pub upper: Option<u64>,
     pub kind: Kind,
 }
 

@@ -31,12 +31,12 @@ pub(crate) fn elements(json: &Json) -> &[Json]
 }
 
 /// Whether so many entries are within the bound, if there is one.
-pub fn is_within(count: usize, upper: Option<u32>) -> bool
+pub fn is_within(count: usize, upper: Option<u64>) -> bool
     ensures { result ≡ is_within count upper }
 {
     match upper {
         None => true,
-        Some(upper) => count <= upper as usize,
+        Some(upper) => count as u64 <= upper,
     }
 }
 

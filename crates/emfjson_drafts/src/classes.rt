@@ -3,7 +3,7 @@ ghost use Rattle.std.specs.Prelude.{◌≡◌, option_copied, option_map};
 ghost use Rattle.serde_json.specs.View.{view};
 ghost use Rattle.ecore_meta.specs.Meta.{feature_named};
 ghost use Rattle.ecore_json.specs.References.{after_prefix};
-ghost use Rattle.model_documents.specs.Classes.{class_after, class_of, class_said, class_spelt, may_stand};
+ghost use Rattle.model_documents.specs.Classes.{class_after, class_of, class_said, class_spelled, may_stand};
 ghost use Rattle.model_documents.specs.Walk.{key_named};
 ghost use Rattle.emfjson_drafts.specs.Answers.{Gives};
 
@@ -29,8 +29,8 @@ fn class_after(meta: &Metamodel, prefix: &str, text: &str) -> Option<u32>
 }
 
 /// The class that a text names: `//Name`, `#//Name`, or the latter after the package's URI.
-fn class_spelt(meta: &Metamodel, text: &str) -> Option<u32>
-    ensures { result ≡ class_spelt meta.now text.now }
+fn class_spelled(meta: &Metamodel, text: &str) -> Option<u32>
+    ensures { result ≡ class_spelled meta.now text.now }
 {
     if let Some(class) = class_after(meta, "//", text) {
         return Some(class);
@@ -56,7 +56,7 @@ fn class_said(
             None => Err(ModelFault::NoClass),
             Some(class) => Ok(class),
         },
-        Some(Value::String(text)) => match class_spelt(meta, text.as_str()) {
+        Some(Value::String(text)) => match class_spelled(meta, text.as_str()) {
             None => Err(ModelFault::NoClass),
             Some(class) => Ok(class),
         },

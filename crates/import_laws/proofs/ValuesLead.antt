@@ -2,7 +2,7 @@
 use Rattle.std.proofs.lemmas.Bool.Decides.{nat_tests}
 use Rattle.std.proofs.Common.{◌≡◌, ℕ, suc, ◌+◌, ◌<◌, ◌≤◌, Bool, true, false, cond, not, ◌&&◌, ◌||◌, List, [], ◌∷◌, ◌++◌, map, length, drop, refl, sym}
 use Rattle.std.proofs.Common.{ap, subst, ◌∙◌, arith, append_assoc, append-nil, length-append, nat_eq, nat_le, nat_lt}
-use Rattle.std.specs.Prelude.{Option, None, Some, is_some, min, slice_get}
+use Rattle.std.specs.Prelude.{Option, None, Some, is_some, slice_get}
 use Rattle.std.specs.List.{insert, list_all, list_any}
 use Rattle.std.specs.Ordering.{eq_by_cmp}
 use Rattle.std.specs.FinMap.{get}
@@ -144,11 +144,10 @@ module _ (meta : Meta) (s : State) where
         let put : set attr (e, f) (entry_of (insert (values_of (get attr (e, f))) (length done) v)) ≡ attr' =
         ap (λ ws. set attr (e, f) (entry_of (insert ws (length done) v))) held ∙ ap (λ ws. set attr (e, f) (entry_of ws)) (insert_last done v) in
         let size = length-append done (v ∷ []) in
-        let more = longer done v vs in
-        let count : min (length done + 1) most_entries ≡ length next = counted (length done) (length next) (length (done ++ (v ∷ vs))) size more few in
-        fold_more meta (valued attr) (Ins e f (length done) v) (inserts_made e f (min (length done + 1) most_entries) vs)
+        let count : length done + 1 ≡ length next = counted (length done) (length next) size in
+        fold_more meta (valued attr) (Ins e f (length done) v) (inserts_made e f (length done + 1) vs)
         (insert_can scalar unique is done v vs attr entry typed within few distinct)
-        ∙ ap (λ a. fold meta (valued a) (inserts_made e f (min (length done + 1) most_entries) vs)) put
+        ∙ ap (λ a. fold meta (valued a) (inserts_made e f (length done + 1) vs)) put
         ∙ ap (λ n. fold meta (valued attr') (inserts_made e f n vs)) count
         ∙ inserts_lead scalar unique is vs next attr' (get-set_same attr_order attr (e, f) (entry_of next))
         (subst (λ ws. list_all (fits meta scalar) ws ≡ true) moved typed) (subst (λ ws. is_within (length ws) (upper_of meta f) ≡ true) moved within)
@@ -156,8 +155,8 @@ module _ (meta : Meta) (s : State) where
         ∙ ap (λ a. Some (valued a))
         (set_twice attr_order attr (e, f) (entry_of next) (entry_of (next ++ vs)) ∙ ap (λ ws. set attr (e, f) (entry_of ws)) (sym moved))
       where
-        counted : (n k t : ℕ) → k ≡ n + length (v ∷ []) → n + 1 ≤ t → t ≤ most_entries → min (n + 1) most_entries ≡ k
-        counted n k t h g l = omega arith
+        counted : (n k : ℕ) → k ≡ n + length (v ∷ []) → n + 1 ≡ k
+        counted n k h = omega arith
 
     put_can : (scalar : Scalar) (default : Option Value) → kind_of meta f ≡ Attr scalar default → (v : Value) (attr : Attrs) → get attr (e, f) ≡ None
         → fits meta scalar v ≡ true → is_default (Attr scalar default) v ≡ false

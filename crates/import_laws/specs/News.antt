@@ -1,5 +1,5 @@
 -- The steps in which the elements of a document are created.
-use Rattle.std.specs.Prelude.{ℕ, suc, ◌+◌, ◌*◌, min, Bool, true, List, [], ◌∷◌, ◌++◌, Option, None, Some, Result, Ok, Err, slice_get, take, if◌then◌else◌}
+use Rattle.std.specs.Prelude.{ℕ, suc, ◌+◌, ◌*◌, Bool, true, List, [], ◌∷◌, ◌++◌, Option, None, Some, Result, Ok, Err, slice_get, take, if◌then◌else◌}
 use Rattle.model_state.specs.declared.entry.Entry.{Entry}
 use Rattle.model_state.specs.declared.step.Place.{Place}
 use Rattle.model_state.specs.declared.step.Place.TheVariants.{Root, Inside}
@@ -11,13 +11,13 @@ use Rattle.edit_steps.specs.declared.fault.EditFault.TheVariants.{Bound}
 use Rattle.model_documents.specs.Fits.{standing}
 use Rattle.model_documents.specs.declared.doc.DocParent.{DocParent}
 use Rattle.model_documents.specs.declared.doc.DocRow.{DocRow}
-use Rattle.import_laws.specs.Names.{name_at, greatest_number}
+use Rattle.import_laws.specs.Names.{name_at}
 use Rattle.import_laws.specs.Roots.{has_end, root_after, root_made}
 use Rattle.model_state.specs.Ranks.{rank_gap}
 
--- the rank of the k-th entry of a new list, from 0: evenly spread, as far as 64 bits go
+-- the rank of the k-th entry of a new list, from 0: evenly spread
 abbrev pub rank_of : ℕ → ℕ
-rank_of k = min ((k + 1) * rank_gap) greatest_number
+rank_of k = (k + 1) * rank_gap
 
 -- inside the element of that id, or at the root
 abbrev pub inside : Option IdBytes → ℕ → Place

@@ -1,5 +1,5 @@
 -- The steps in which the elements of a document get their values.
-use Rattle.std.specs.Prelude.{ℕ, suc, ◌+◌, min, cond, List, [], ◌∷◌, ◌++◌, None, Some}
+use Rattle.std.specs.Prelude.{ℕ, suc, ◌+◌, cond, List, [], ◌∷◌, ◌++◌, None, Some}
 use Rattle.ecore_meta.specs.Meta.{Meta}
 use Rattle.ecore_meta.specs.declared.meta.Value.{Value}
 use Rattle.model_state.specs.declared.step.Step.{Step}
@@ -9,17 +9,16 @@ use Rattle.model_state.specs.Typing.{is_attr, kind_of}
 use Rattle.model_documents.specs.declared.doc.DocAttr.{DocAttr}
 use Rattle.model_documents.specs.declared.doc.DocRow.{DocRow}
 use Rattle.import_laws.specs.Names.{name_at}
-use Rattle.model_state.specs.Ranks.{most_entries}
 
 -- the one value of a single attribute
 abbrev pub put_made : IdBytes → ℕ → List Value → List Step
 put_made e f [] = []
 put_made e f (v ∷ vs) = Put e f None (Some v) ∷ []
 
--- the values of a list, from the index on, which 32 bits hold
+-- the values of a list, from the index on
 abbrev pub inserts_made : IdBytes → ℕ → ℕ → List Value → List Step
 inserts_made e f at [] = []
-inserts_made e f at (v ∷ vs) = Ins e f at v ∷ inserts_made e f (min (at + 1) most_entries) vs
+inserts_made e f at (v ∷ vs) = Ins e f at v ∷ inserts_made e f (at + 1) vs
 
 -- the values of one attribute
 abbrev pub attr_made : Meta → IdBytes → DocAttr → List Step

@@ -33,7 +33,7 @@ pub(crate) fn same_flag(a: bool, b: bool) -> bool
     if a { b } else { !b }
 }
 
-pub(crate) fn same_bound(a: Option<u32>, b: Option<u32>) -> bool
+pub(crate) fn same_bound(a: Option<u64>, b: Option<u64>) -> bool
     ensures { result ≡ option_eq nat_eq a b }
 {
     match a {

@@ -27,10 +27,22 @@ fn scalar_eq(s: &Scalar, t: &Scalar) -> bool
     }
 }
 
+fn opposite_eq(f: Option<u32>, g: Option<u32>) -> bool
+    ensures { result ≡ option_eq nat_eq f g }
+{
+    match f {
+        None => g.is_none(),
+        Some(f) => match g {
+            None => false,
+            Some(g) => f == g,
+        },
+    }
+}
+
 fn reference_eq(c: u32, f: Option<u32>, d: u32, g: Option<u32>) -> bool
     ensures { result ≡ nat_eq c d && option_eq nat_eq f g }
 {
-    c == d && same_bound(f, g)
+    c == d && opposite_eq(f, g)
 }
 
 fn kind_eq(k: &Kind, l: &Kind) -> bool

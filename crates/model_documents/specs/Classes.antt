@@ -18,8 +18,8 @@ abbrev pub class_after : Meta → Name → Name → Option ℕ
 class_after meta prefix t = option_and_then (class_named meta) (after_prefix prefix t)
 
 -- the class that `//Name`, `#//Name` or `#//Name` after the package's URI names
-abbrev pub class_spelt : Meta → Name → Option ℕ
-class_spelt meta t =
+abbrev pub class_spelled : Meta → Name → Option ℕ
+class_spelled meta t =
     or_else (class_after meta (codes "//") t)
     (or_else (class_after meta (codes "#//") t)
     (option_and_then (class_after meta (codes "#//")) (after_prefix meta.uri t)))
@@ -27,7 +27,7 @@ class_spelt meta t =
 -- the class that an object names; without `eClass` it is the default, which a root has not
 abbrev pub class_said : Meta → Option ℕ → Option Data → Read ℕ
 class_said meta default None = found NoClass default
-class_said meta default (Some (string s)) = found NoClass (class_spelt meta s)
+class_said meta default (Some (string s)) = found NoClass (class_spelled meta s)
 class_said meta default (Some null) = Err NoClass
 class_said meta default (Some (boolean b)) = Err NoClass
 class_said meta default (Some (number n)) = Err NoClass

@@ -1,5 +1,5 @@
 //! The links of an import: each reference with its opposite is one step, with the rank on either side.
-ghost use Rattle.std.specs.Prelude.{◌≡◌, ◌++◌, OnOk, length, Some, option_copied, slice_get};
+ghost use Rattle.std.specs.Prelude.{◌≡◌, ◌++◌, IfOk, OnOk, length, Some, option_copied, slice_get};
 ghost use Rattle.import_laws.specs.Links.{is_made, link_to, links_from, links_made, mirror_of, refs_made, targets_made};
 
 use crate::indexes::Indexes;
@@ -23,11 +23,11 @@ fn is_made(opposite: Option<u32>, n: usize, f: u32, b: usize) -> bool
 }
 
 /// The rank of the mirror of a link of row n to the target b.
-fn mirror_of(rows: &Indexes, opposite: Option<u32>, n: usize, b: usize) -> u64
-    ensures { result ≡ mirror_of rows.now opposite n b }
+fn mirror_of(rows: &Indexes, opposite: Option<u32>, n: usize, b: usize) -> Result<u64, AllocError>
+    ensures { IfOk result (λ r. r ≡ mirror_of rows.now opposite n b) }
 {
     match opposite {
-        None => 0,
+        None => Ok(0),
         Some(g) => rank_of(rows.index(b, g, n)),
     }
 }
@@ -51,8 +51,9 @@ fn add_link(
     if is_made(opposite, n, f, b) {
         return Ok(());
     }
-    let mirror = mirror_of(rows, opposite, n, b);
-    steps.push(link_step(alloc, opposite, e, f, rank_of(k), name, mirror)?)?;
+    let mirror = mirror_of(rows, opposite, n, b)?;
+    let rank = rank_of(k)?;
+    steps.push(link_step(alloc, opposite, e, f, rank, name, mirror)?)?;
     Ok(())
 }
 

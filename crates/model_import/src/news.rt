@@ -19,11 +19,12 @@ use std::alloc::{AllocError, Global};
 use std::collections::BTreeMap;
 use texts::List;
 
-/// The rank of the k-th entry of a new list, from 0.
-pub(crate) fn rank_of(k: usize) -> u64
-    ensures { result ≡ rank_of k }
+/// The rank of the k-th entry of a new list, from 0. It is out of memory where 64 bits don't hold the rank.
+pub(crate) fn rank_of(k: usize) -> Result<u64, AllocError>
+    ensures { IfOk result (λ r. r ≡ rank_of k) }
 {
-    (k as u64).saturating_add(1).saturating_mul(RANK_GAP)
+    let number = (k as u64).checked_add(1).ok_or(AllocError)?;
+    number.checked_mul(RANK_GAP).ok_or(AllocError)
 }
 
 /// The place of a row.
@@ -83,7 +84,7 @@ fn add_inside(
         e: e.copy(alloc)?,
         class,
         place: Place::Inside { parent, feature },
-        rank: rank_of(k),
+        rank: rank_of(k)?,
     })?;
     Ok(())
 }

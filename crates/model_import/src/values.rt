@@ -49,7 +49,7 @@ fn add_inserts(
             at,
             v: value.copy(alloc)?,
         })?;
-        at = at.saturating_add(1);
+        at = at.checked_add(1).ok_or(AllocError)?;
     }
     Ok(())
 }

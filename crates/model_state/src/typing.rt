@@ -10,12 +10,12 @@ ghost use Rattle.ecore_meta.specs.Typing.{is_one};
 use ecore_meta::{Kind, Metamodel, Scalar, Value};
 
 /// Whether a list of n entries has room for one more under the bound.
-pub fn is_below_bound(n: usize, upper: Option<u32>) -> bool
+pub fn is_below_bound(n: usize, upper: Option<u64>) -> bool
     ensures { result ≡ is_below n upper }
 {
     match upper {
         None => true,
-        Some(upper) => n < upper as usize,
+        Some(upper) => (n as u64) < upper,
     }
 }
 
@@ -104,7 +104,7 @@ pub fn opposite_of(meta: &Metamodel, f: u32) -> Option<u32>
 }
 
 /// The upper bound of a feature, None where it has none.
-pub fn upper_of(meta: &Metamodel, f: u32) -> Option<u32>
+pub fn upper_of(meta: &Metamodel, f: u32) -> Option<u64>
     ensures { result ≡ upper_of meta.now f }
 {
     match meta.get_feature(f) {
@@ -114,7 +114,7 @@ pub fn upper_of(meta: &Metamodel, f: u32) -> Option<u32>
 }
 
 /// Whether an upper bound is one.
-pub fn is_one(upper: Option<u32>) -> bool
+pub fn is_one(upper: Option<u64>) -> bool
     ensures { result ≡ is_one upper }
 {
     match upper {
@@ -124,7 +124,7 @@ pub fn is_one(upper: Option<u32>) -> bool
 }
 
 /// How many references of the feature an element may have, None for any number.
-pub fn row_upper(meta: &Metamodel, f: u32) -> Option<u32>
+pub fn row_upper(meta: &Metamodel, f: u32) -> Option<u64>
     ensures { result ≡ row_upper meta.now f }
 {
     match meta.get_feature(f) {
@@ -137,7 +137,7 @@ pub fn row_upper(meta: &Metamodel, f: u32) -> Option<u32>
 }
 
 /// How many children may stand in the feature, None for any number.
-pub fn child_upper(meta: &Metamodel, f: u32) -> Option<u32>
+pub fn child_upper(meta: &Metamodel, f: u32) -> Option<u64>
     ensures { result ≡ child_upper meta.now f }
 {
     match meta.get_feature(f) {
