@@ -1,6 +1,6 @@
 -- The names of rows that describe a model. No two are the same, each element has one, and they stand in the order of the lists.
 use Rattle.std.proofs.Common.{◌≡◌, ◌∙◌, ℕ, zero, suc, ◌+◌, ◌<◌, ◌≤◌, Bool, true, false, cond, ◌&&◌, not, List, [], ◌∷◌, ◌++◌, drop, length, take}
-use Rattle.std.proofs.Common.{nat_eq, refl, sym, ap, subst, arith, rules}
+use Rattle.std.proofs.Common.{nat_eq, refl, sym, ap, arith}
 use Rattle.std.specs.Prelude.{Option, None, Some, is_some, slice_get}
 use Rattle.std.specs.List.{count_by, list_any}
 use Rattle.std.specs.FinMap.{get}
@@ -31,7 +31,7 @@ use Rattle.import_laws.specs.Laws.{ids_differ}
 use Rattle.import_laws.specs.Names.{name_at}
 use Rattle.import_laws.specs.News.{inside, place_of}
 use Rattle.import_laws.proofs.Indexed.{at_less, drop_at, drop_next, drop_none, named, same_at, take_next}
-use Rattle.round_trip.specs.Describes.{Describes, DescribesElement, standing_in}
+use Rattle.round_trip.specs.Describes.{Describes, standing_in}
 use Rattle.round_trip.proofs.ListsInOrder.{any_id, any_index}
 
 -- ---- no two names are the same
@@ -56,27 +56,8 @@ names_differ (r ∷ rest) (x ∷ es) many each h =
     (ap (λ o. is_given o rest) (sym (each 0 r x refl refl)) ∙ or_first (is_given r.id rest) _ h)))
     (names_differ rest es (omega (arith, many)) (λ n. each (suc n)) (or_second (is_given r.id rest) _ h))
 
--- where a name stands among the names
-abbrev pub index_of : IdBytes → List IdBytes → ℕ
-index_of e [] = 0
-index_of e (x ∷ xs) = cond (text_eq e x) 0 (suc (index_of e xs))
-
-pub index_named : (names : List IdBytes) → ids_differ names ≡ true → (i : ℕ) → i < length names → index_of (name_at names i) names ≡ i
-index_named [] ok i less = absurd (omega arith)
-index_named (x ∷ xs) ok zero less = ap (λ b. cond b 0 (suc (index_of x xs))) (text_equality.own x)
-index_named (x ∷ xs) ok (suc i) less =
-    ap (λ b. cond b 0 (suc (index_of (name_at xs i) xs))) (same_at (x ∷ xs) ok (suc i) 0 less (omega arith) ∙ not_zero i)
-    ∙ ap suc (index_named xs (second (not (list_any (text_eq x) xs)) (ids_differ xs) ok) i (omega arith))
-  where
-    not_zero : (i : ℕ) → nat_eq (suc i) 0 ≡ false
-    not_zero i = search rules
-
-    second : (a b : Bool) → a && b ≡ true → b ≡ true
-    second true b h = h
-    second false b h = cc
-
 -- ---- how many pass
-tally_append : {X : Type 0} (p : X → Bool) (xs ys : List X) → tally p (xs ++ ys) ≡ tally p xs + tally p ys
+pub tally_append : {X : Type 0} (p : X → Bool) (xs ys : List X) → tally p (xs ++ ys) ≡ tally p xs + tally p ys
 tally_append p [] ys = omega arith
 tally_append p (x ∷ xs) ys = let rest = tally_append p xs ys in omega (arith, rest)
 
@@ -167,17 +148,6 @@ module _ (names : List IdBytes) (rows : List DocRow) where
       next : (k b c j : ℕ) → k ≡ b + j → c ≡ b + 0 → k ≡ c + j
       next k b c j h g = omega arith
 
-  -- no place has more of them than there are
-  pub standing_few : (p : Place) (rest : List DocRow) (n : ℕ) → length (standing_in names p n rest) ≤ length rest
-  standing_few p [] n = omega arith
-  standing_few p (r ∷ rest) n =
-      let more = standing_few p rest (suc n) in
-      elim (place_eq (place_of names r.parent) p) as (λ b.
-      length (cond b (name_at names n ∷ standing_in names p (suc n) rest) (standing_in names p (suc n) rest)) ≤ suc (length rest)) [
-        | true ↦ omega (arith, more)
-        | false ↦ omega (arith, more)
-      ]
-
 -- ---- rows that fit stand in one place where they have one parent
 module _ (names : List IdBytes) (differ : ids_differ names ≡ true) where
   -- the parent is the root or one of the rows
@@ -218,12 +188,6 @@ pub record HasRow (names : List IdBytes) (rows : List DocRow) (e : IdBytes) : Ty
   pub named : e ≡ name_at names row
 
 module _ (m : State) (names : List IdBytes) (rows : List DocRow) (tells : Describes m names rows) where
-  pub row_small : (i : ℕ) (r : DocRow) → slice_get rows i ≡ Some r → i < length names
-  row_small i r is = let less = at_less rows i r is in let many = tells.as_many in omega (arith, less, many)
-
-  pub told_at : (i : ℕ) (r : DocRow) → slice_get rows i ≡ Some r → DescribesElement m names (name_at names i) r
-  told_at i r is = tells.each i r (name_at names i) is (named names i (row_small i r is))
-
   pub names_apart : ids_repeat rows ≡ false → ids_differ names ≡ true
   names_apart apart = names_differ rows names tells.as_many (λ n r x is at. (tells.each n r x is at).id) apart
 
@@ -243,9 +207,6 @@ module _ (m : State) (names : List IdBytes) (rows : List DocRow) (tells : Descri
     where
       none : (b j : ℕ) → b ≤ 0 → j ≡ b + j
       none b j h = omega arith
-
-  pub child_few : (p : Place) → length (child_ids m p) ≤ length rows
-  child_few p = subst (λ xs. length xs ≤ length rows) (tells.lists p) (standing_few names rows p rows 0)
 
   placed_row : (e : IdBytes) (p : Place) → get m.place e ≡ Some p → HasRow names rows e
   placed_row e p is =

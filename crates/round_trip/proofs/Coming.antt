@@ -29,8 +29,7 @@ use Rattle.import_laws.proofs.NameLists.{names_are}
 use Rattle.round_trip.specs.Laws.{ComesBack, TextsComeBack}
 use Rattle.round_trip.specs.Describes.{Describes}
 use Rattle.round_trip.proofs.Bringing.{tellings_are_shown}
-use Rattle.round_trip.proofs.BringingNames.{names_apart}
-use Rattle.round_trip.proofs.BringingRanks.{all_come}
+use Rattle.round_trip.proofs.BringingRooms.{all_come}
 use Rattle.round_trip.proofs.ReadingTold.{texts_are_told}
 use Rattle.model_state.specs.Ranks.{most_entries}
 
@@ -81,8 +80,7 @@ comes : (meta : Meta) → IsMetamodel meta → (m : State) → Good meta m → (
     → doc_of meta (text meta m) ≡ Ok rows → Describes m names rows → length rows < most_entries → ComesBack meta ws (text meta m)
 comes meta promised m good ws names rows read tells few =
     let fit = documents_fit meta promised (text meta m) rows read in
-    let differ = names_apart m names rows tells fit.ids_apart in
-    let come = all_come meta names rows fit tells.as_many differ few in
+    let come = all_come names rows few in
     let are = given_names nothing rows ws 1 rows names tells.as_many (λ n r e here there. (tells.each n r e here there).id) in
     let operation = composite rows (steps meta names rows come.0 come.1) in
     let imported = is_import meta names rows come.0 come.1 in

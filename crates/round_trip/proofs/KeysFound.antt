@@ -19,7 +19,7 @@ use Rattle.ecore_json.specs.References.{after_prefix, or_else}
 use Rattle.ecore_meta.specs.Meta.{Meta, class_named, feature_named, features_of, first_named, name_at}
 use Rattle.ecore_meta.specs.Names.{Name, has_repeat, number_of}
 use Rattle.ecore_meta.specs.declared.meta.Class.{Class as ClassOf}
-use Rattle.model_documents.specs.Classes.{class_after, class_spelt}
+use Rattle.model_documents.specs.Classes.{class_after, class_spelled}
 use Rattle.model_texts.specs.Keys.{key_cmp, key_name, keys_of}
 use Rattle.model_texts.specs.Tree.{class_text, members, with_member}
 use Rattle.ecore_meta.specs.Named.{IsNamed}
@@ -192,7 +192,7 @@ module _ (meta : Meta) (named : IsNamed meta) where
   abbrev hashed : Name → Name
   hashed name = 35 ∷ 47 ∷ 47 ∷ name
 
-  -- what is spelt with a slash first, or with the number sign, is no class after another text
+  -- what is spelled with a slash first, or with the number sign, is no class after another text
   slashed : (a b : ℕ) (u name : Name) → class_after meta (codes "//") (a ∷ b ∷ (u ++ hashed name)) ≡ None
   slashed a b u name = either_none (47 == a) (cond (47 == b) (Some (u ++ hashed name)) None)
       (dropped (47 == b) (u ++ hashed name) (not_named (u ++ hashed name) (slash_behind u (47 ∷ name))))
@@ -204,17 +204,17 @@ module _ (meta : Meta) (named : IsNamed meta) where
       (either_none (47 == b) (cond (47 == x) (Some (u ++ hashed name)) None)
       (dropped (47 == x) (u ++ hashed name) (not_named (u ++ hashed name) (slash_behind u (47 ∷ name)))))
 
-  spelt : (u name : Name) (c : ℕ) → class_named meta name ≡ Some c
+  spelled : (u name : Name) (c : ℕ) → class_named meta name ≡ Some c
       → or_else (class_after meta (codes "//") (u ++ hashed name))
       (or_else (class_after meta (codes "#//") (u ++ hashed name))
       (option_and_then (class_after meta (codes "#//")) (after_prefix u (u ++ hashed name)))) ≡ Some c
-  spelt [] name c is = ap (λ o. or_else o (option_and_then (class_after meta (codes "#//")) (Some (hashed name)))) is
-  spelt (a ∷ []) name c is =
+  spelled [] name c is = ap (λ o. or_else o (option_and_then (class_after meta (codes "#//")) (Some (hashed name)))) is
+  spelled (a ∷ []) name c is =
       ap (λ o. or_else o (or_else (class_after meta (codes "#//") (a ∷ hashed name))
       (option_and_then (class_after meta (codes "#//")) (after_prefix (a ∷ []) (a ∷ hashed name))))) (either_none (47 == a) None refl)
       ∙ ap (λ o. or_else o (option_and_then (class_after meta (codes "#//")) (after_prefix (a ∷ []) (a ∷ hashed name)))) (either_none (35 == a) None refl)
       ∙ ap (option_and_then (class_after meta (codes "#//"))) (behind_own (a ∷ []) (hashed name)) ∙ is
-  spelt (a ∷ b ∷ u) name c is =
+  spelled (a ∷ b ∷ u) name c is =
       let t = a ∷ b ∷ (u ++ hashed name) in
       ap (λ o. or_else o (or_else (class_after meta (codes "#//") t) (option_and_then (class_after meta (codes "#//")) (after_prefix (a ∷ b ∷ u) t))))
       (slashed a b u name)
@@ -227,10 +227,11 @@ module _ (meta : Meta) (named : IsNamed meta) where
   name_of_place (y ∷ ys) (suc n) x is = name_of_place ys n x is
 
   -- a class is the one that its text names
-  pub class_again : (c : ℕ) (class : ClassOf) → slice_get meta.classes c ≡ Some class → class_spelt meta (class_text meta c) ≡ Some c
+  pub class_again : (c : ℕ) (class : ClassOf) → slice_get meta.classes c ≡ Some class → class_spelled meta (class_text meta c) ≡ Some c
   class_again c class is =
       let name : option_map_or (λ (x : ClassOf). x.name) (slice_get meta.classes c) [] ≡ class.name =
       ap (λ o. option_map_or (λ (x : ClassOf). x.name) o []) is in
-      ap (class_spelt meta) (append_assoc meta.uri (codes "#//") (option_map_or (λ (x : ClassOf). x.name) (slice_get meta.classes c) []))
-      ∙ ap (λ t. class_spelt meta (meta.uri ++ hashed t)) name
-      ∙ spelt meta.uri class.name c (number_at (map (λ (x : ClassOf). x.name) meta.classes) c class.name named.classes (name_of_place meta.classes c class is))
+      ap (class_spelled meta) (append_assoc meta.uri (codes "#//") (option_map_or (λ (x : ClassOf). x.name) (slice_get meta.classes c) []))
+      ∙ ap (λ t. class_spelled meta (meta.uri ++ hashed t)) name
+      ∙ spelled meta.uri class.name c (number_at (map (λ (x : ClassOf). x.name) meta.classes) c class.name named.classes
+      (name_of_place meta.classes c class is))

@@ -1,8 +1,6 @@
 pub mod ListsInOrder
-pub mod BringingMaps
 pub mod BringingNames
-pub mod BringingRanks
-pub mod BringingRows
+pub mod BringingRooms
 pub mod Bringing
 pub mod ReadingPlain
 pub mod ReadingTrees
@@ -31,3 +29,8 @@ pub mod ReadingMerged
 pub mod WalksShort
 pub mod ReadingTold
 pub mod Coming
+pub mod ImportedMaps
+pub mod ImportedLinks
+pub mod ImportedRanks
+pub mod ImportedLists
+pub mod Imported

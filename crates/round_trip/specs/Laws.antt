@@ -15,10 +15,19 @@ use Rattle.model_documents.specs.Document.{doc_of}
 use Rattle.model_documents.specs.Fits.{DocumentFits}
 use Rattle.model_texts.specs.Tree.{text, tree}
 use Rattle.import_laws.specs.After.{import_after}
-use Rattle.import_laws.specs.Import.{recorded_import}
+use Rattle.import_laws.specs.Import.{import_of, recorded_import}
+use Rattle.import_laws.specs.Names.{AreNames}
 use Rattle.round_trip.specs.Named.{HasIds}
 use Rattle.round_trip.specs.Describes.{Describes}
+use Rattle.round_trip.specs.Imported.{IsBroughtIn}
 use Rattle.edits.specs.Answers.{steps_in}
+
+-- The steps that are recorded of a document that fits can be taken one by one in any good model. They leave it with the document
+-- brought in.
+abbrev pub ImportsBringIn : Type 0
+ImportsBringIn = (meta : Meta) → Sound meta → (m : State) → Good meta m → (ws : ℕ) (rows : List DocRow) → DocumentFits meta rows → (names : List IdBytes)
+    → AreNames m rows ws 1 rows names → (operation : Option Operation) → import_of meta m names rows ≡ Ok operation
+    → (left : State) × (fold meta m (steps_in operation) ≡ Some left) × IsBroughtIn m names rows left
 
 -- what rows that describe a good model leave in the empty project has the text of that model
 abbrev pub DescriptionsAreShown : Type 0

@@ -1,3 +1,4 @@
 pub mod Describes
+pub mod Imported
 pub mod Named
 pub mod Laws
