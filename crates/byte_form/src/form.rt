@@ -5,6 +5,9 @@ ghost use Rattle.byte_form.specs.Fields.{u32_encoding, u64_encoding, text_encodi
 use std::alloc::{AllocError, Global};
 use std::marker::Model;
 
+/// For how many bytes a form has room from the start: those of an event that records one edit.
+const FIRST_ROOM: usize = 64;
+
 /// Bytes that grow field by field. A field for which there is no memory leaves them as they were.
 #[derive(Debug, Drop)]
 pub struct Form {
@@ -20,13 +23,15 @@ impl Model for Form {
 }
 
 impl Form {
-    /// No bytes yet.
+    /// No bytes yet. There is room for a short event from the start, where memory is at hand.
     pub fn new(alloc: Global) -> Form
         ensures empty { result ≡ [] }
     {
-        Form {
-            bytes: Vec::new(alloc),
-        }
+        let bytes = match Vec::with_capacity(alloc, FIRST_ROOM) {
+            Ok(bytes) => bytes,
+            Err(_) => Vec::new(alloc),
+        };
+        Form { bytes }
     }
 
     /// One byte more.

@@ -1,7 +1,6 @@
 -- Lines of a block that are plain, taken at once.
 use Rattle.std.proofs.Common.{◌≡◌, ℕ, ◌+◌, ◌-◌, ◌^◌, ◌<◌, ◌≤◌, ◌++◌, List, [], ◌∷◌, Bool, true, false, nat_lt, nat_le, get_or, length, take, drop}
 use Rattle.std.proofs.Common.{refl, ap, sym, ◌∙◌, arith, Result, Ok, Err, length-append, length-take-le, append_assoc, append-nil, subst}
-use borrow.Author.Count.{below_more}
 use Rattle.std.proofs.lemmas.Bool.{false_from_ne_true, le-ltb, ne_eqb}
 use Rattle.std.proofs.lemmas.List.{take-append-drop, get_or-take, get_or-drop}
 use Rattle.std.proofs.lemmas.List.Elements.{All-push, All-head, All-tail, All-from_get_or}
@@ -40,6 +39,10 @@ cut_at_feed bytes end i h within feed =
     grind (arith, common_steps) in
     rw n (take-add end (i - end + 1) bytes ∙ ap (λ (xs : List ℕ). take end bytes ++ xs) last)
 
+-- what stands behind an offset
+pub behind : (bytes : List ℕ) (from k : ℕ) → k < length bytes - from → get_or (take (length bytes - from) (drop from bytes)) k 0 ≡ get_or bytes (from + k) 0
+behind bytes from k below = get_or-take (length bytes - from) (drop from bytes) k 0 below ∙ get_or-drop from bytes k 0
+
 -- where the line up to the line feed at i is plain
 pub plain_more : (bytes : List ℕ) (end i : ℕ) → end ≤ i → i < length bytes → ArePlain (take end bytes)
     → ((k : ℕ) → end ≤ k → k < i → get_or bytes k 0 ≡ 10 → ⊥) → get_or bytes i 0 ≡ 10
@@ -58,12 +61,6 @@ plain_more bytes end i h within front clear feed whole no_end =
 
     near : (k : ℕ) → k < length (take (i - end) (drop end bytes)) → end + k < i
     near k lt = omega (arith, less k lt)
-
--- where the byte at i is no line feed
-pub clear_more : (bytes : List ℕ) (end i : ℕ) → ((k : ℕ) → end ≤ k → k < i → get_or bytes k 0 ≡ 10 → ⊥) → (get_or bytes i 0 ≡ 10 → ⊥)
-    → (k : ℕ) → end ≤ k → k < i + 1 → get_or bytes k 0 ≡ 10 → ⊥
-clear_more bytes end i clear here k low high =
-    below_more (λ (j : ℕ). end ≤ j → get_or bytes j 0 ≡ 10 → ⊥) i (λ j lt from. clear j from lt) (λ from. here) k high low
 
 -- ---- text that is cut at a line feed
 

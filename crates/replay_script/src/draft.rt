@@ -6,6 +6,9 @@ ghost use Rattle.replay_script.specs.Lines.{last_part};
 use std::alloc::{AllocError, Global};
 use std::marker::Model;
 
+/// For how many bytes a draft has room from the start.
+const FIRST_ROOM: usize = 256;
+
 /// A line or a block in the making, which contracts see as its bytes so far.
 #[derive(Drop)]
 pub(crate) struct Draft {
@@ -22,14 +25,15 @@ impl Model for Draft {
 }
 
 impl Draft {
-    /// No bytes yet.
+    /// No bytes yet. There is room for the lines of a short event from the start, where memory is at hand.
     pub(crate) fn new(alloc: Global) -> Draft
         ensures { result ≡ [] }
     {
-        Draft {
-            alloc,
-            bytes: Vec::new(alloc),
-        }
+        let bytes = match Vec::with_capacity(alloc, FIRST_ROOM) {
+            Ok(bytes) => bytes,
+            Err(_) => Vec::new(alloc),
+        };
+        Draft { alloc, bytes }
     }
 
     /// More of the text.

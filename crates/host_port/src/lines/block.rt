@@ -1,5 +1,5 @@
 //! A block of lines, up to the line that ends it.
-ghost use Rattle.std.specs.Prelude.{◌≡◌, ◌≢◌, false, ◌+◌, ◌<◌, ◌≤◌, ◌^◌, ℕ, [], ◌++◌, List, Bool, length, drop, take, IsTrue, IfOk, OnOk, IfErr, IsErrOf, if◌then◌else◌, string_bytes, Ok};
+ghost use Rattle.std.specs.Prelude.{◌≡◌, ◌≢◌, false, ◌+◌, ◌<◌, ◌≤◌, ◌^◌, ℕ, [], ◌++◌, List, Bool, length, drop, take, slice_index, IsTrue, IfOk, OnOk, IfErr, IfSome, IsErrOf, if◌then◌else◌, string_bytes, Ok};
 ghost use Rattle.std.specs.List.{slice_split};
 ghost use Rattle.host_port.specs.Limits.{block_limit};
 ghost use Rattle.host_port.specs.Host.{GoesOn, KeepsDisk, KeepsSaid, RaisesTakesAlone, Rose};
@@ -55,31 +55,28 @@ fn is_plain(raw: &[u8]) -> bool
     len == 0 || (raw[len - 1] != b'\r' && (len > 1 || raw[0] != b'.'))
 }
 
+/// The first line feed from an offset on.
+fn next_feed(bytes: &[u8], from: usize) -> Option<usize>
+    requires { from ≤ length bytes.now }
+    ensures { IfSome result (λ i. (from ≤ i) × (i < length bytes.now) × (slice_index bytes.now i ≡ 10) × ((k : ℕ) → from ≤ k → k < i → slice_index bytes.now k ≢ 10)) }
+{
+    match memchr(b'\n', &bytes[from..]) {
+        Some(at) => Some(from + at),
+        None => None,
+    }
+}
+
 /// How many bytes at the front are whole lines that are plain, up to the first that isn't, and within `room` bytes.
 fn plain_end(bytes: &[u8], room: usize) -> usize
     ensures within { (result ≤ length bytes.now) × (result ≤ room) }
     ensures plain { ArePlain (take result bytes.now) }
 {
     let mut end = 0;
-    'bytes: for i in 0..bytes.len().min(room) {
-        if bytes[i] == b'\n' {
-            if !is_plain(&bytes[end..i]) {
-                return end;
-            }
-            end = i + 1;
+    'lines: loop {
+        match next_feed(bytes, end) {
+            Some(at) if at < room && is_plain(&bytes[end..at]) => end = at + 1,
+            _ => return end,
         }
-    }
-    end
-}
-
-/// The same, and sooner where the first line isn't plain or isn't whole.
-fn run_len(bytes: &[u8], room: usize) -> usize
-    ensures within { (result ≤ length bytes.now) × (result ≤ room) }
-    ensures plain { ArePlain (take result bytes.now) }
-{
-    match memchr(b'\n', bytes) {
-        Some(at) if is_plain(&bytes[..at]) => plain_end(bytes, room),
-        _ => 0,
     }
 }
 
@@ -163,7 +160,7 @@ impl Block {
         }
         let room = (BLOCK_LIMIT - (unread.offset - start)) as usize;
         let bytes = unread.pending.as_slice();
-        let run = run_len(bytes, room);
+        let run = plain_end(bytes, room);
         if run > 0 && self.add_run(&bytes[..run])? {
             unread.go_past(run);
         } else {

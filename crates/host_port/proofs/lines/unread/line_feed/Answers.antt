@@ -1,12 +1,9 @@
 use Rattle.std.proofs.Common.{◌≡◌, ℕ, ◌+◌, ◌-◌, ◌<◌, ◌≤◌, List, length, take, drop, get_or, true, sym, ◌∙◌, ap, arith, inl, inr}
 use Rattle.std.proofs.lemmas.Bool.{eqb-true, cases_lt}
-use Rattle.std.proofs.lemmas.List.{get_or-take, get_or-drop, length-take, length-drop}
+use Rattle.std.proofs.lemmas.List.{length-take, length-drop}
 use Rattle.std.specs.Bool.{◌==◌}
+use Rattle.host_port.proofs.ScriptRuns.{behind}
 use Rattle.host_port.proofs.lines.unread.line_feed.Goals as goal
-
--- what stands after a place
-behind : (bytes : List ℕ) (from k : ℕ) → k < length bytes - from → get_or (take (length bytes - from) (drop from bytes)) k 0 ≡ get_or bytes (from + k) 0
-behind bytes from k below = get_or-take (length bytes - from) (drop from bytes) k 0 below ∙ get_or-drop from bytes k 0
 
 module _ (bytes : List ℕ) (from : ℕ) (low : from ≤ length bytes) (before : (k : ℕ) → k < from → get_or bytes k 0 ≡ 10 → ⊥) where
   -- no line feed stands before a place after which none stands up to another
