@@ -363,7 +363,7 @@ pub fn play(
     }
 }
 
-/// Makes the event that the bytes of a record are.
+/// Makes the event whose encoding the bytes are.
 ///
 /// # Errors
 ///

@@ -1,13 +1,13 @@
-//! Why an event is not made again.
+//! Why an event is not played.
 ghost use Rattle.std.specs.Prelude.{◌≡◌, ◌≢◌};
 
 use model_state::StepFault;
 use std::alloc::AllocError;
 
-/// Why the bytes of a record are not played.
+/// Why an event is not played.
 #[derive(Clone, Copy)]
 pub enum PlayFault {
-    /// They are no event that could be made here.
+    /// It could not be made here, or the bytes are none.
     NotPlayable,
     /// Out of memory.
     Memory,

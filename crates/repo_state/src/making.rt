@@ -26,7 +26,7 @@ use page_pool::Pool;
 use state_cache::Cache;
 use std::alloc::{AllocError, Global};
 use texts::Text;
-use version_states::follow;
+use version_states::take_all;
 use working_model::Working;
 
 /// The metamodel of a text.
@@ -132,25 +132,37 @@ impl Repo {
             return Err(PlayFault::NotPlayable);
         }
         let mut model = self.take_model(alloc, cache, pool, ws)?;
-        self.advance(ws, &mut model, &package)?;
+        if !self.advance(alloc, ws, &mut model, &package)? {
+            self.keep_model(ws, model);
+            return Err(PlayFault::NotPlayable);
+        }
         self.install(alloc, ws, package, model)?;
         Ok(())
     }
 
-    /// Takes the steps of operations on the working model of a workspace. After an error the model is of no use.
-    fn advance(&self, ws: u32, model: &mut Working, package: &Package) -> Result<(), PlayFault>
+    /// Takes the steps of operations on the working model of a workspace, and says whether it could take all. Where it couldn't,
+    /// the model is as it was. After an error it is of no use.
+    fn advance(
+        &self,
+        alloc: Global,
+        ws: u32,
+        model: &mut Working,
+        package: &Package,
+    ) -> Result<bool, PlayFault>
         requires takes { can_take self.now.meta (workspace_of self.now ws) «package».now ≡ true }
         requires model { IsWorkingModel self.now ws model.old }
-        ensures could { OnOk result (playable_with self.now self.now.meta (Edit ws «package».now) ≡ true) }
-        ensures leads { OnOk result (LeadTo self.now ws «package».now model.new) }
-        ensures cannot { IsErrOf result PlayFault.NotPlayable → playable_with self.now self.now.meta (Edit ws «package».now) ≡ false }
+        ensures could { IfOk result (λ all. all ≡ true → playable_with self.now self.now.meta (Edit ws «package».now) ≡ true) }
+        ensures leads { IfOk result (λ all. all ≡ true → LeadTo self.now ws «package».now model.new) }
+        ensures cannot { IfOk result (λ all. all ≡ false → playable_with self.now self.now.meta (Edit ws «package».now) ≡ false) }
+        ensures fault { IsErrOf result PlayFault.NotPlayable → playable_with self.now self.now.meta (Edit ws «package».now) ≡ false }
+        ensures same { IfOk result (λ all. all ≡ false → model.new ≡ model.old) }
     {
         let Some(begun) = &self.begun else {
             unreachable!()
         };
         begun.meta.recall_soundness();
-        match follow(model, &begun.meta, package.as_slice()) {
-            Ok(()) => Ok(()),
+        match take_all(alloc, model, &begun.meta, package.as_slice()) {
+            Ok(all) => Ok(all),
             Err(fault) => Err(package_fault(fault)),
         }
     }

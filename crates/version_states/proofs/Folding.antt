@@ -1,16 +1,19 @@
 -- Packages taken one operation after another, and versions one after another.
 use Rattle.std.proofs.Math.ListN.{get_or}
 use Rattle.std.proofs.Math.Seq.{drop-cons}
-use Rattle.std.proofs.Common.{◌≡◌, ◌≢◌, ℕ, suc, ◌+◌, ◌<◌, List, [], ◌∷◌, ◌++◌, length, drop, Option, Some, None, Result, Ok, Err, ⊎_elim, refl, ◌∙◌, ap, arith}
-use Rattle.std.specs.Prelude.{IfErr}
+use Rattle.std.proofs.Common.{◌≡◌, ◌≢◌, ℕ, suc, ◌+◌, ◌<◌, List, [], ◌∷◌, ◌++◌, length, drop, Option, Some, None, Result, Ok, Err, ⊎_elim, refl, sym}
+use Rattle.std.proofs.Common.{◌∙◌, ap, arith}
+use Rattle.std.specs.Prelude.{IfErr, option_map}
 use Rattle.std.specs.Result.{IsErr, IsErrAnd}
 use Rattle.model_state.specs.declared.step.StepFault.TheVariants.{Memory}
-use Rattle.model_state.specs.Faults.{IsFault}
+use Rattle.model_state.specs.Faults.{IsApplyFault, IsFault}
+use Rattle.model_state.specs.declared.step.ApplyFault.{ApplyFault}
+use Rattle.model_laws.proofs.Stops.{stop_is_fault}
 use Rattle.ecore_meta.specs.Meta.{Meta}
 use Rattle.model_state.specs.State.{State}
 use Rattle.model_state.specs.declared.step.Step.{Step}
 use Rattle.model_state.specs.declared.step.StepFault.{StepFault}
-use Rattle.model_state.specs.Steps.{fold, fault, fault_along, apply}
+use Rattle.model_state.specs.Steps.{fold, fault, fault_along, first_stop, apply}
 use Rattle.model_state.specs.declared.operation.Operation.{Operation}
 use Rattle.model_state.specs.Packages.{steps_of, steps_all, fold_package}
 use Rattle.model_laws.proofs.Packages.{steps_append}
@@ -39,6 +42,10 @@ fold_append_none meta m (s ∷ ss) ts is = by (fault meta m s) (fold_append_none
         → ◌≡◌ {A = Option State} (elim o [ None ↦ fold meta (apply meta m s) (ss ++ ts) | Some _ ↦ None ]) None
     by None below h = below h
     by (Some f) below h = refl
+
+-- the fault where they stop
+pub fault_at_stop : (meta : Meta) (m : State) (ss : List Step) (x : ApplyFault) → first_stop meta m ss ≡ Some x → fault_along meta m ss ≡ Some x.fault
+fault_at_stop meta m ss x stops = sym (stop_is_fault meta m ss) ∙ ap (option_map (λ (y : ApplyFault). y.fault)) stops
 
 -- the first operation taken, or not
 pub package_on : (meta : Meta) (m n : State) (o : Operation) (os : List Operation) → fold meta m (steps_of o) ≡ Some n
@@ -71,6 +78,15 @@ cannot_fold meta start m os i d e (Ok x) is_err is below same cannot = absurd cc
 cannot_fold meta start m os i d e (Err f) is_err is below same cannot = λ not_memory. ⊎_elim
     (λ memory. absurd (not_memory (is ∙ memory)))
     (λ at. same ∙ operation_none meta m os i d below (fold_none meta m (steps_of (get_or os i d)) e at)) cannot
+
+-- nor does a package of which an operation stops
+pub stop_folds_none : (meta : Meta) (start m : State) (os : List Operation) (i : ℕ) (d : Operation) (x : ApplyFault) → i < length os → x.fault ≢ Memory
+    → fold_package meta start os ≡ fold_package meta m (drop i os) → IsApplyFault (first_stop meta m (steps_of (get_or os i d))) x
+    → fold_package meta start os ≡ None
+stop_folds_none meta start m os i d x below not_memory same stops =
+    same
+    ∙ operation_none meta m os i d below (⊎_elim (λ memory. absurd (not_memory memory))
+    (λ at. fold_none meta m (steps_of (get_or os i d)) x.fault (fault_at_stop meta m (steps_of (get_or os i d)) x at)) stops)
 
 -- ---- versions
 -- the place on a path moves on by a version whose package is taken

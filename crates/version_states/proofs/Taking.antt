@@ -13,7 +13,7 @@ use Rattle.model_state.specs.Steps.{first_stop, fold}
 use Rattle.model_state.specs.declared.operation.Operation.{Operation}
 use Rattle.model_state.specs.declared.step.Step.{Step}
 use Rattle.model_laws.proofs.Packages.{steps_append}
-use Rattle.model_laws.proofs.Runs.{reversal_undoes, steps_keep_good}
+use Rattle.model_laws.proofs.Runs.{fold_append, reversal_undoes, steps_keep_good}
 use Rattle.model_laws.proofs.Reversals.{packages_undone}
 use Rattle.version_states.specs.Taking.{LedTo, StepsLedTo}
 use Rattle.version_states.proofs.Stopping.{first_append}
@@ -52,6 +52,15 @@ led_pushed meta ss m none all o none_is all_are is led =
     subst (λ (l : List Step). StepsLedTo meta l m)
     (sym (ap steps_all (all_are ∙ ap (λ (l : List Operation). l ++ o ∷ []) none_is) ∙ append-nil (steps_of o) ∙ is)) led
 
+-- operations and then steps lead to a model
+pub folds_further : (meta : Meta) (a m n : State) (os : List Operation) (ss : List Step) → fold_package meta a os ≡ Some m → fold meta m ss ≡ Some n
+    → fold meta a (steps_all os ++ ss) ≡ Some n
+folds_further meta a m n os ss first more = fold_append meta a m (steps_all os) ss first ∙ more
+
+pub led_further : (meta : Meta) (a m n : State) (os : List Operation) (ss : List Step) → Good meta a → fold_package meta a os ≡ Some m
+    → fold meta m ss ≡ Some n → StepsLedTo meta (steps_all os ++ ss) n
+led_further meta a m n os ss good first more = record { before = a; good = good; run = folds_further meta a m n os ss first more }
+
 -- the model is as it was once steps that were taken on it are taken back
 pub put_back : (meta : Meta) → Sound meta → (a b m : State) (ss ts : List Step) → Good meta a → Good meta b → fold meta a ss ≡ Some m → ts ≡ ss
     → fold meta b ts ≡ Some m → b ≡ a
@@ -74,6 +83,14 @@ pub copied_more : {A : Type 0} (start out new xs : List A) (i : ℕ) (d x : A) �
 copied_more start out new xs i d x within so_far pushed is =
     pushed ∙ ap (λ l. l ++ x ∷ []) so_far ∙ append_assoc start (take i xs) (x ∷ [])
     ∙ ap (λ l. start ++ l) (ap (λ y. take i xs ++ y ∷ []) is ∙ sym (one_more xs i d within))
+
+-- one operation more is taken
+pub taken_more : (meta : Meta) (a m n : State) (os : List Operation) (i : ℕ) (d : Operation) → i < length os → fold_package meta a (take i os) ≡ Some m
+    → fold meta m (steps_of (get_or os i d)) ≡ Some n → fold_package meta a (take (i + 1) os) ≡ Some n
+taken_more meta a m n os i d within first more =
+    ap (fold_package meta a) (one_more os i d within) ∙ ap (fold meta a) (steps_append (take i os) (get_or os i d ∷ []))
+    ∙ fold_append meta a m (steps_all (take i os)) (steps_of (get_or os i d) ++ []) first
+    ∙ ap (fold meta m) (append-nil (steps_of (get_or os i d))) ∙ more
 
 pub steps_more : (os : List Operation) (out new steps : List Step) (i : ℕ) (d : Operation) → i < length os → out ≡ steps_all (take i os)
     → new ≡ out ++ steps → steps ≡ steps_of (get_or os i d) → new ≡ steps_all (take (i + 1) os)

@@ -3,5 +3,7 @@
 
 mod cached;
 mod states;
+mod trying;
 
 pub use states::{follow, follow_all, state_at, steps_out, stop_in, take_back, take_steps};
+pub use trying::take_all;

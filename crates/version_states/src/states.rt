@@ -102,7 +102,11 @@ pub fn take_back(
 }
 
 /// Puts copies of steps after those that are there.
-fn push_copies(alloc: Global, out: &mut List<Step>, steps: &[Step]) -> Result<(), AllocError>
+pub(crate) fn push_copies(
+    alloc: Global,
+    out: &mut List<Step>,
+    steps: &[Step],
+) -> Result<(), AllocError>
     ensures { OnOk result (out.new ≡ out.old ++ steps.now) }
 {
     for step in steps {
@@ -112,7 +116,7 @@ fn push_copies(alloc: Global, out: &mut List<Step>, steps: &[Step]) -> Result<()
 }
 
 /// Copies of the steps of operations, one after another.
-fn copy_steps(alloc: Global, operations: &[Operation]) -> Result<List<Step>, AllocError>
+pub(crate) fn copy_steps(alloc: Global, operations: &[Operation]) -> Result<List<Step>, AllocError>
     ensures { IfOk result (λ steps. steps ≡ steps_all operations.now) }
 {
     let mut steps = List::new(alloc);
@@ -123,7 +127,7 @@ fn copy_steps(alloc: Global, operations: &[Operation]) -> Result<List<Step>, All
 }
 
 /// Takes back steps, which were the last taken. After an error the model is of no use.
-fn untake(
+pub(crate) fn untake(
     alloc: Global,
     model: &mut Working,
     meta: &Metamodel,

@@ -12,18 +12,18 @@ returns-in-Err-NotForm-clause-refused c =
 
 pub make-requires-clause-event : goal.make-requires-clause-event
 make-requires-clause-event c =
-    let spelt = decoded c.args.bytes.now c.in-Ok.event (λ i. omega (arith, c.type_inv.bytes i)) c.in-Ok.ensures.read in
-    is_event_holds c.in-Ok.event spelt.0
+    let spelled = decoded c.args.bytes.now c.in-Ok.event (λ i. omega (arith, c.type_inv.bytes i)) c.in-Ok.ensures.read in
+    is_event_holds c.in-Ok.event spelled.0
 
 pub make-requires-clause-size : goal.make-requires-clause-size
 make-requires-clause-size c =
-    let spelt = decoded c.args.bytes.now c.in-Ok.event (λ i. omega (arith, c.type_inv.bytes i)) c.in-Ok.ensures.read in
-    ap length spelt.1
+    let spelled = decoded c.args.bytes.now c.in-Ok.event (λ i. omega (arith, c.type_inv.bytes i)) c.in-Ok.ensures.read in
+    ap length spelled.1
 
 pub returns-clause-played : goal.returns-clause-played
 returns-clause-played c =
-    let spelt = decoded c.args.bytes.now c.in-Ok.event (λ i. omega (arith, c.type_inv.bytes i)) c.in-Ok.ensures.read in
-    bytes_played c.make.result c.args.repo.now c.make.new.repo c.args.bytes.now c.in-Ok.event spelt.1 c.make.ensures.could c.make.ensures.made
+    let spelled = decoded c.args.bytes.now c.in-Ok.event (λ i. omega (arith, c.type_inv.bytes i)) c.in-Ok.ensures.read in
+    bytes_played c.make.result c.args.repo.now c.make.new.repo c.args.bytes.now c.in-Ok.event spelled.1 c.make.ensures.could c.make.ensures.made
 
 pub returns-clause-refused : goal.returns-clause-refused
 returns-clause-refused c =

@@ -1,4 +1,5 @@
 use Rattle.std.proofs.Common.{sym, subst}
+use Rattle.model_state.specs.State as models
 use Rattle.plain_repository.specs.State.{State}
 use Rattle.repo_state.specs.Working.{IsWorkingModel}
 use Rattle.repo_state.proofs.repo.Repo.record.Goals as goal
