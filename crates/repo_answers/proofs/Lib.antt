@@ -2,6 +2,7 @@ pub mod Applied
 pub mod Chosen
 pub mod Following
 pub mod Loaded
+pub mod LoadedEvents
 pub mod Naming
 pub mod Needed
 pub mod Playable

@@ -1,10 +1,17 @@
 -- The bytes that the block of a `load` spells, and what is answered to them.
-use Rattle.std.proofs.Common.{◌≡◌, ◌≢◌, ℕ, nat_eq, ◌<◌, List, [], ◌∷◌, length, Bool, true, false, Option, None, Some, refl, sym, ap, ◌∙◌, cond, arith}
-use Rattle.std.specs.List.{slice_split, onto_first, position_or_len, before_first, after_first}
-use Rattle.std.proofs.lemmas.List.Splits.{slice_split_first, slice_split_none}
+use Rattle.std.proofs.Common.{◌≡◌, ◌≢◌, ℕ, nat_eq, suc, ◌-◌, ◌<◌, List, [], ◌∷◌, ◌++◌, length, take, take-suc, get_or, Bool, true, false, Option, None, Some}
+use Rattle.std.proofs.Common.{Result, Ok, Err, refl, sym, ap, ◌∙◌, cond, arith}
+use Rattle.std.specs.Prelude.{IfSome}
+use Rattle.std.proofs.Math.Seq.{take-length}
+use Rattle.std.proofs.lemmas.Option.{same_Some}
+use Rattle.std.proofs.lemmas.List.Elements.{All-nil, All-cons}
+use Rattle.std.specs.List.{All, AllPass, slice_split, onto_first, position_or_len, before_first, after_first}
+use Rattle.std.proofs.lemmas.List.Splits.{slice_split_at, slice_split_first, slice_split_none}
 use Rattle.host_port.specs.Cut.{is_lf}
 use Rattle.host_port.proofs.ScriptItems.{all_before}
-use Rattle.hex.specs.Hex.{decode_of}
+use Rattle.hex.specs.Hex.{decode_of, is_hex_digit}
+use Rattle.hex.specs.declared.error.FromHexError.{FromHexError}
+use Rattle.hex.proofs.HexLemmas.{decode_of-ok}
 use Rattle.ecore_meta.specs.Meta.{Meta}
 use Rattle.op_reading.specs.Events.{whole_of}
 use Rattle.op_reading.specs.Packages.{package_at}
@@ -60,6 +67,38 @@ line_and_rest text line [] front back within = one_line text line [] front back 
 line_and_rest text line (x ∷ xs) front back within =
     let some : nat_eq (length (x ∷ xs)) 0 ≡ false = grind arith in
     ap (λ (b : Bool). cond b (if_decoded (decode_of line)) None) some ∙ sym (more_lines text (x ∷ xs) back within (λ e. cc))
+
+-- ---- a line of digits
+no_feed : (c : ℕ) → is_hex_digit c ≡ true → is_lf c ≡ false
+no_feed c is = grind (arith, is)
+
+digits_clear : (cs : List ℕ) → AllPass is_hex_digit cs → All (λ b. is_lf b ≡ false) cs
+digits_clear [] all = All-nil (λ b. is_lf b ≡ false)
+digits_clear (c ∷ cs) all =
+    All-cons (λ b. is_lf b ≡ false) c cs (no_feed c (all 0 c (omega arith))) (digits_clear cs (λ k d below. all (suc k) d (omega (arith, below))))
+
+-- a text is what stands before its last byte, and that
+last_cut : (text : List ℕ) → 0 < length text → get_or text (length text - 1) 0 ≡ 10 → text ≡ take (length text - 1) text ++ 10 ∷ []
+last_cut text some feed =
+    let whole : suc (length text - 1) ≡ length text = omega arith in
+    sym (take-length text) ∙ ap (λ (n : ℕ). take n text) (sym whole) ∙ take-suc text (length text - 1) 0 (omega arith)
+    ∙ ap (λ (b : ℕ). take (length text - 1) text ++ b ∷ []) feed
+
+decoded : (line bytes : List ℕ) → Some bytes ≡ if_decoded (decode_of line) → decode_of line ≡ Ok bytes
+decoded line bytes is = by (decode_of line) is
+  where
+    by : (r : Result (List ℕ) FromHexError) → Some bytes ≡ if_decoded r → r ≡ Ok bytes
+    by (Ok found) is = ap Ok (same_Some found bytes (sym is))
+    by (Err e) is = absurd cc
+
+-- the bytes of a line of digits, behind which a line feed stands and no more, are those that the text spells
+pub digits_spell : (text line : List ℕ) → 0 < length text → get_or text (length text - 1) 0 ≡ 10 → line ≡ take (length text - 1) text
+    → (found : Option (List ℕ)) → found ≡ if_decoded (decode_of line) → IfSome found (λ bytes. bytes_of_lines (slice_split is_lf text) ≡ Some bytes)
+digits_spell text line some feed front None is = tt
+digits_spell text line some feed front (Some bytes) is =
+    let clear = digits_clear line (decode_of-ok line bytes (decoded line bytes is)).1 in
+    ap (λ (t : List ℕ). bytes_of_lines (slice_split is_lf t)) (last_cut text some feed ∙ ap (λ (l : List ℕ). l ++ 10 ∷ []) (sym front))
+    ∙ ap bytes_of_lines (slice_split_at is_lf line 10 [] clear refl) ∙ sym is
 
 -- ---- the answer
 pub load_goes : (s : State) (meta : Meta) (ws : ℕ) (w : Workspace) (text bytes : List ℕ) → workspace_of s ws ≡ Some w

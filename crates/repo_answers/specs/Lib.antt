@@ -1,4 +1,5 @@
 pub mod Counting
 pub mod Decisions
+pub mod Loads
 pub mod Needs
 pub mod Shown

@@ -32,6 +32,7 @@ use applying::{decide_apply, decide_revert};
 use checkouts::{decide_checkout, decide_drop};
 use commits::{decide_branch, decide_commit, decide_signed, decide_tag, decide_upgrade};
 use composites::{decide_begin, decide_end};
+pub(crate) use loading::bytes_of_block;
 use loading::decide_load;
 use local::{decide_discard, decide_undo};
 use merging::{decide_merge, decide_update};
@@ -50,7 +51,7 @@ use views::{decide_cat, decide_changes, decide_log, decide_package, decide_show,
 use working_model::Working;
 
 /// The text of a block, empty where there is none.
-fn block_text(block: &Option<Text>) -> &str
+pub(crate) fn block_text(block: &Option<Text>) -> &str
     requires short { IsShortBlock block.now }
     ensures text { result.now ≡ block_text block.now }
     ensures short { length result.now < 2 ^ 32 - 1 }

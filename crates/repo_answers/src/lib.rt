@@ -3,7 +3,9 @@
 
 mod counting;
 mod deciding;
+mod loads;
 mod versions;
 
 pub use counting::{Counts, counts_of, elements_at_head};
 pub use deciding::{Decision, Made, decide};
+pub use loads::event_of_load;

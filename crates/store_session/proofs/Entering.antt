@@ -7,7 +7,7 @@ use Rattle.host_port.proofs.Course.{still_disk}
 use Rattle.page_pool.specs.Frames.{Frames}
 use Rattle.page_pool.specs.Paged.{PagedState}
 use Rattle.commit_journal.specs.Journal.{StandsFor, IsJournalAtRest, IsBeforeOrAfter, RecordFits, HoldsRecord}
-use Rattle.commit_journal.proofs.Torn.{left_settled}
+use Rattle.commit_journal.proofs.Torn.{left_stable}
 use Rattle.commit_journal.proofs.Ends.{stands}
 use Rattle.command_runs.specs.Runs.{listed}
 use Rattle.command_runs.specs.Crashes.{IsStepping}
@@ -22,7 +22,7 @@ use Rattle.store_session.specs.Session.{IsStoreOf, IsEntering, IsRecordOf}
 
 pub rest_leaves : (disk : Disk) (state : State) (made : List Event) → IsStoreOf disk state made → CrashLeaves (λ x. StandsForEvents x made) disk
 rest_leaves disk state made holds x left = record {
-  forms = subst (λ (l : List ℕ). StandsFor l (map event_encoding made)) (sym (left_settled disk x holds.rests.journal.settled left))
+  forms = subst (λ (l : List ℕ). StandsFor l (map event_encoding made)) (sym (left_stable disk x holds.rests.journal.stable left))
       (stands disk.now (map event_encoding made) state.end holds.rests.journal.ends);
   playable = holds.rests.playable;
 }

@@ -8,7 +8,7 @@ use Rattle.host_port.proofs.Course.{carry_on, at_last, told_next, course_on, kep
 use Rattle.commit_journal.specs.TornWrites.{IsStable}
 use Rattle.commit_journal.specs.Journal.{WalkState, StandsFor, StandsForNone, IsWalked, IsJournalAtRest, IsStuck, ReadsTo, MountedFrom, IsAtMostSynced}
 use Rattle.commit_journal.specs.Journal.{records, record_of, header, open_gate}
-use Rattle.commit_journal.proofs.Torn.{left_settled}
+use Rattle.commit_journal.proofs.Torn.{left_stable}
 use Rattle.commit_journal.proofs.Ends.{records-push, length-record_of, length-header, stands}
 use Rattle.commit_journal.proofs.Mounting.{length-new_file}
 use Rattle.command_runs.specs.Runs.{played}
@@ -92,7 +92,7 @@ long_with_record file forms bytes offset reads = omega (
   length-take offset file,
   length-append header (records (forms ++ bytes ∷ [])),
   length-header,
-  reads.place_is,
+  reads.offset_is,
   ap length (records-push forms bytes),
   length-append (records forms) (open_gate ∷ []),
   length-record_of bytes,
@@ -155,13 +155,13 @@ spells s bytes next event = (event.0, playable_is_event s event.0 event.1, event
 -- bytes that are read are those of one event
 pub read_again : (bytes : List ℕ) (found : Event) → whole_of event_at bytes ≡ Ok found → (event : Event) → IsEvent event
     → bytes ≡ event_encoding event → found ≡ event
-read_again bytes found is event formed spelt =
-    let read : whole_of event_at bytes ≡ Ok event = ap (λ (b : List ℕ). whole_of event_at b) spelt ∙ whole_again event_codes event formed in
+read_again bytes found is event formed spelled =
+    let read : whole_of event_at bytes ≡ Ok event = ap (λ (b : List ℕ). whole_of event_at b) spelled ∙ whole_again event_codes event formed in
     cc
 
 -- bytes of an event are read as one
-pub spelt_is_read : (bytes : List ℕ) (fault : FormFault) → SpellsEvent bytes → whole_of event_at bytes ≡ Err fault → ⊥
-spelt_is_read bytes fault spells is =
+pub spelled_is_read : (bytes : List ℕ) (fault : FormFault) → SpellsEvent bytes → whole_of event_at bytes ≡ Err fault → ⊥
+spelled_is_read bytes fault spells is =
     let read : whole_of event_at bytes ≡ Ok spells.0 = ap (λ (b : List ℕ). whole_of event_at b) spells.2 ∙ whole_again event_codes spells.0 spells.1 in
     cc
 
@@ -178,7 +178,7 @@ module _ (a b : Told) (old new : OpeningState) (bytes : List ℕ) (event : Playe
   plays_event = record {
     event = event.0;
     could = event.1;
-    spelt = event.2;
+    spelled = event.2;
     state_is = event.3;
     played_up_to = λ told made had. record {
       walked = subst (λ (l : List (List ℕ)). IsWalked (disk_now b) l new.next)
@@ -212,10 +212,10 @@ module _ (entry a b : Told) (since : IsOpenedSince entry a) (before : GoesOn ent
   since_on = record {
     file = λ told. subst (λ d. MountedFrom (disk_now entry).now d.now) (sym (same_disk told)) (since.file told);
     same = λ told forms stood. subst (λ d. StandsFor d.now forms) (sym (same_disk told)) (since.same told forms stood);
-    settled = λ told. subst IsStable (sym (same_disk told)) (since.settled told);
+    stable = λ told. subst IsStable (sym (same_disk told)) (since.stable told);
     moments = λ told. carry_on entry a b (λ disk said. IsMounting (disk_now entry) disk) before course since.moments
         (λ told_here t low high. inr (λ x left.
-        let is = left_settled (disk_now a) x (since.settled told) (subst (λ d. MayLeave d x) (disk told_here t low high) left) in
+        let is = left_stable (disk_now a) x (since.stable told) (subst (λ d. MayLeave d x) (disk told_here t low high) left) in
         λ forms stood. subst (λ (l : List ℕ). StandsFor l forms) (sym is) (since.same told forms stood))) told;
     long = λ long told. carry_on entry a b (λ disk said. IsAtMostSynced (disk_now entry) disk) before course (since.long long)
         (λ told_here t low high. subst (IsAtMostSynced (disk_now entry)) (sym (disk told_here t low high))

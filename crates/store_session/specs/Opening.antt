@@ -19,7 +19,7 @@ IsMounting entry disk = (disk ≡ entry) ⊎ CrashLeaves (StandsForSame entry.no
 pub record IsOpenedSince (entry now : Told) : Type 0 where
   pub file : IsTrue entry.tells → MountedFrom (disk_now entry).now (disk_now now).now
   pub same : IsTrue entry.tells → StandsForSame (disk_now entry).now (disk_now now).now
-  pub settled : IsTrue entry.tells → IsStable (disk_now now)
+  pub stable : IsTrue entry.tells → IsStable (disk_now now)
   pub moments : Throughout entry now (λ disk said. IsMounting (disk_now entry) disk)
   pub long : new_size < length (disk_now entry).now → Throughout entry now (λ disk said. IsAtMostSynced (disk_now entry) disk)
 
@@ -31,7 +31,7 @@ SpellsEvent bytes = (event : Event) × IsEvent event × (bytes ≡ event_encodin
 pub record PlaysEvent (before now : Told) (old new : OpeningState) (bytes : List ℕ) : Type 0 where
   pub event : Event
   pub could : IsTrue (playable old.state event)
-  pub spelt : bytes ≡ event_encoding event
+  pub spelled : bytes ≡ event_encoding event
   pub state_is : new.state ≡ play old.state event
   pub played_up_to : IsTrue before.tells → (made : List Event) → IsPlayedUpTo (disk_now before) old.state old.next made
       → IsPlayedUpTo (disk_now now) new.state new.next (made ++ event ∷ [])

@@ -1,5 +1,5 @@
 //! The parts of a command: all that it takes is made ready, its event enters the store, and its reply is printed.
-ghost use Rattle.std.specs.Prelude.{◌≡◌, ◌⊎◌, ◌++◌, ◌^◌, ◌-◌, ◌<◌, ℕ, length, List, Option, IsTrue, IfOk, OnOk, IfErr, OnErr, IsErrOf, IsSome, None, Some, true, false};
+ghost use Rattle.std.specs.Prelude.{◌≡◌, [], ◌⊎◌, ◌++◌, ◌^◌, ◌-◌, ◌<◌, ℕ, length, List, Option, IsTrue, IfOk, OnOk, IfErr, OnErr, IsErrOf, IfSome, IsSome, None, Some, true, false};
 ghost use Rattle.host_port.specs.Host.{disk_now, said_now, Rose, GoesOn, Throughout, KeepsDisk, KeepsSaid, KeepsInput, AddsPart};
 ghost use Rattle.command_runs.specs.Runs.{listed, after};
 ghost use Rattle.command_runs.specs.Crashes.{IsStepping};
@@ -13,17 +13,20 @@ ghost use Rattle.commit_journal.specs.Journal.{HoldsRecord, IsShort, RecordFits}
 ghost use Rattle.state_cache.specs.Entries.{HoldsAll, stands};
 ghost use Rattle.repo_state.specs.Cached.{HasEncodings};
 ghost use Rattle.repo_answers.specs.Decisions.{IsShortBlock};
+ghost use Rattle.repo_answers.specs.Loads.{MakesEventOf};
+ghost use Rattle.script_lang.specs.Reply.{printed};
+ghost use Rattle.script_lang.specs.declared.reply.Last.TheVariants as last;
 ghost use Rattle.store_session.specs.Session.{answer_to, answered_as, IsStoreOf, IsEntering, IfMade, IsPrepared, IsRecordOf, HoldsBoth, LeavesRecord};
 ghost use Rattle.store_session.specs.declared.answered.SessionFault.TheVariants.{DiskFault};
 
 use crate::answered::{Answered, SessionFault, kind_of};
-use commit_journal::{Journal, Prepared, give_up};
-use event_play::play;
+use commit_journal::{Fit, Journal, Prepared, fits, give_up};
+use event_play::{play, play_bytes};
 use host_port::Host;
 use op_form::Event;
 use page_pool::{Pool, count_frames};
-use repo_answers::{Decision, Made, decide};
-use repo_state::Repo;
+use repo_answers::{Decision, Made, decide, event_of_load};
+use repo_state::{PlayFault, Repo};
 use script_lang::print_reply;
 use state_cache::Cache;
 use std::alloc::{AllocError, Global};
@@ -93,8 +96,8 @@ fn play_ready(
     }
 }
 
-/// Decides a command, with all the memory that it takes. Its event is made in memory, and its record is ready in frames
-/// of the pool. Where memory runs out, the working models of all workspaces are let go, and all of this is done once more.
+/// Answers a command in memory: its event is made there, its record is ready in frames of the pool, and its reply is printed.
+/// Where memory runs out, the working models of all workspaces are let go, and all of this is done once more.
 pub(crate) fn prepare(
     alloc: Global,
     pool: &mut Pool,
@@ -125,8 +128,129 @@ pub(crate) fn prepare(
 }
 
 /// The same, and without a second try.
-#[tactic(auto, using(crate::proofs::Holding::all_on, crate::proofs::Holding::none_both))]
 fn prepare_once(
+    alloc: Global,
+    pool: &mut Pool,
+    cache: &mut Cache,
+    repo: &mut Repo,
+    journal: &Journal,
+    line: &str,
+    block: &Option<Text>,
+) -> Result<PreparedAnswer, AllocError>
+    requires line { length line.now < 2 ^ 32 - 1 }
+    requires block { IsShortBlock block.now }
+    requires all { HoldsAll pool.old cache.old }
+    requires forms { HasEncodings repo.old pool.old cache.old }
+    ensures prepared_answer { IfOk result (IsPrepared pool.new repo.old (decide_line repo.old line.now block.now)) }
+    ensures held { IfOk result (λ prepared_answer. HoldsBoth pool.new cache.new prepared_answer.ready) }
+    ensures all { OnErr result (HoldsAll pool.new cache.new) }
+    ensures forms { HasEncodings repo.new pool.new cache.new }
+    ensures state { OnOk result (repo.new ≡ after play repo.old (decide_line repo.old line.now block.now).event) }
+    ensures same { OnErr result (repo.new ≡ repo.old) }
+{
+    match prepare_load(alloc, pool, cache, repo, journal, line, block) {
+        Ok(prepared_answer) => Ok(prepared_answer),
+        Err(PlayFault::Memory) => Err(AllocError),
+        Err(PlayFault::NotPlayable) => {
+            prepare_decided(alloc, pool, cache, repo, journal, line, block)
+        }
+    }
+}
+
+/// The bytes of the event that a line `load` makes with its block, where the journal has room for its record.
+fn event_with_room(
+    alloc: Global,
+    repo: &Repo,
+    line: &str,
+    block: &Option<Text>,
+) -> Result<Option<Vec<u8>>, AllocError>
+    requires line { length line.now < 2 ^ 32 - 1 }
+    requires block { IsShortBlock block.now }
+    ensures { IfOk result (λ found. IfSome found (λ form. MakesEventOf line.now block.now form.items × RecordFits repo.now.end (length form.items))) }
+{
+    let Some(form) = event_of_load(alloc, repo, line, block)? else {
+        return Ok(None);
+    };
+    match fits(repo.end(), form.len() as u64) {
+        Fit::Yes => Ok(Some(form)),
+        Fit::TooLarge | Fit::Full => Ok(None),
+    }
+}
+
+/// The bytes of the reply `ok` alone.
+fn print_done(alloc: Global) -> Result<Vec<u8>, AllocError>
+    ensures { IfOk result (λ bytes. bytes.items ≡ printed (record { lines = []; last = last.Ok [] })) }
+{
+    b"ok\n".to_vec(alloc)
+}
+
+/// All that answering takes, of a line `load` whose event can be made: it is played by its bytes, and nothing is decided.
+/// `NotPlayable` where the line is another, or is answered otherwise.
+fn prepare_load(
+    alloc: Global,
+    pool: &mut Pool,
+    cache: &mut Cache,
+    repo: &mut Repo,
+    journal: &Journal,
+    line: &str,
+    block: &Option<Text>,
+) -> Result<PreparedAnswer, PlayFault>
+    requires line { length line.now < 2 ^ 32 - 1 }
+    requires block { IsShortBlock block.now }
+    requires all { HoldsAll pool.old cache.old }
+    requires forms { HasEncodings repo.old pool.old cache.old }
+    ensures prepared_answer { IfOk result (IsPrepared pool.new repo.old (decide_line repo.old line.now block.now)) }
+    ensures held { IfOk result (λ prepared_answer. HoldsBoth pool.new cache.new prepared_answer.ready) }
+    ensures all { OnErr result (HoldsAll pool.new cache.new) }
+    ensures forms { HasEncodings repo.new pool.new cache.new }
+    ensures state { OnOk result (repo.new ≡ after play repo.old (decide_line repo.old line.now block.now).event) }
+    ensures same { OnErr result (repo.new ≡ repo.old) }
+{
+    let Some(form) = event_with_room(alloc, repo, line, block)? else {
+        return Err(PlayFault::NotPlayable);
+    };
+    let reply = print_done(alloc)?;
+    let prepared = make_ready(alloc, pool, cache, repo, journal, &form)?;
+    let prepared = play_form(alloc, pool, cache, repo, &form, prepared)?;
+    Ok(PreparedAnswer {
+        reply,
+        answered: Answered::Accepted,
+        ready: Some(prepared),
+    })
+}
+
+/// Makes the event of bytes whose record is ready. Where it can't be made, or memory runs out, the record's frames are given back.
+fn play_form(
+    alloc: Global,
+    pool: &mut Pool,
+    cache: &mut Cache,
+    repo: &mut Repo,
+    form: &[u8],
+    prepared: Prepared,
+) -> Result<Prepared, PlayFault>
+    requires fits { RecordFits repo.old.end (length form.now) }
+    requires holds { HoldsRecord pool.old prepared form.now }
+    requires held { HoldsBoth pool.old cache.old (Some prepared) }
+    requires forms { HasEncodings repo.old pool.old cache.old }
+    ensures played { OnOk result ((event : Event) × IsTrue (playable repo.old event) × (form.now ≡ event_encoding event) × (repo.new ≡ play repo.old event)) }
+    ensures same { OnErr result (repo.new ≡ repo.old) }
+    ensures holds { IfOk result (λ prepared. HoldsRecord pool.new prepared form.now) }
+    ensures held { IfOk result (λ prepared. HoldsBoth pool.new cache.new (Some prepared)) }
+    ensures all { OnErr result (HoldsAll pool.new cache.new) }
+    ensures forms { HasEncodings repo.new pool.new cache.new }
+{
+    match play_bytes(alloc, cache, pool, repo, form) {
+        Ok(()) => Ok(prepared),
+        Err(fault) => {
+            give_up(prepared, pool);
+            Err(fault)
+        }
+    }
+}
+
+/// All that answering a line takes, where it is decided first.
+#[tactic(auto, using(crate::proofs::Holding::all_on, crate::proofs::Holding::none_both))]
+fn prepare_decided(
     alloc: Global,
     pool: &mut Pool,
     cache: &mut Cache,

@@ -1,5 +1,5 @@
 //! The command `load`.
-ghost use Rattle.std.specs.Prelude.{◌≡◌, ◌==◌, IfOk, None, Some, cond, is_some, length, true};
+ghost use Rattle.std.specs.Prelude.{◌≡◌, ◌==◌, IfOk, IfSome, None, Some, cond, is_some, length, true};
 ghost use Rattle.std.specs.List.{slice_split};
 ghost use Rattle.host_port.specs.Cut.{is_lf};
 ghost use Rattle.hex.specs.Hex.{decode_of};
@@ -25,7 +25,7 @@ use state_cache::Cache;
 use std::alloc::{AllocError, Global};
 
 /// The bytes that a line spells, two hexadecimal digits a byte.
-fn bytes_of_line(alloc: Global, line: &str) -> Result<Option<Bytes>, AllocError>
+fn bytes_of_line(alloc: Global, line: &[u8]) -> Result<Option<Bytes>, AllocError>
     ensures { IfOk result (λ bytes. bytes ≡ if_decoded (decode_of line.now)) }
 {
     match hex::decode(alloc, line) {
@@ -46,13 +46,27 @@ fn bytes_of_only_line(alloc: Global, line: &str, rest: &str) -> Result<Option<By
     if !rest.is_empty() {
         return Ok(None);
     }
-    bytes_of_line(alloc, line)
+    bytes_of_line(alloc, line.as_bytes())
+}
+
+/// The bytes of a block that is one line of digits, known without a search for its line feed, which is no digit; none of another block.
+fn bytes_of_digits(alloc: Global, block: &[u8]) -> Result<Option<Bytes>, AllocError>
+    ensures { IfOk result (λ found. IfSome found (λ bytes. bytes_of_lines (slice_split is_lf block.now) ≡ Some bytes)) }
+{
+    let len = block.len();
+    if len == 0 || block[len - 1] != b'\n' {
+        return Ok(None);
+    }
+    bytes_of_line(alloc, &block[..len - 1])
 }
 
 /// The bytes that a block spells: those of its one line.
-fn bytes_of_block(alloc: Global, block: &str) -> Result<Option<Bytes>, AllocError>
+pub(crate) fn bytes_of_block(alloc: Global, block: &str) -> Result<Option<Bytes>, AllocError>
     ensures { IfOk result (λ bytes. bytes ≡ bytes_of_lines (slice_split is_lf block.now)) }
 {
+    if let Some(bytes) = bytes_of_digits(alloc, block.as_bytes())? {
+        return Ok(Some(bytes));
+    }
     match block.split_once('\n') {
         None => Ok(None),
         Some((line, rest)) => bytes_of_only_line(alloc, line, rest),
