@@ -83,7 +83,7 @@ events_by_kind =
     (16, upgrade_at) ∷
     (17, signed_at) ∷ []
 
--- what the byte chooses of these
+-- the event of that kind, read as its row of these says
 abbrev pub event_of_kind : List (ℕ × Reading Event) → ℕ → ℕ × Rest → Result (Event × Rest) FormFault
 event_of_kind [] offset kind = Err (NotForm offset)
 event_of_kind (row ∷ rows) offset kind = if kind.0 == row.0 then row.1 kind.1 else event_of_kind rows offset kind

@@ -167,6 +167,6 @@ each_file file bytes = elim (cases_lt new_size (length file)) [
   | inl long ↦ elim (header_from file bytes long 16 0 refl refl) [
     | inr none ↦ inr (none.0, record { long = long; found = inl none.1 })
     | inl whole ↦ from_place file bytes long (length file) 16 (omega arith) [] (omega arith) refl
-        (record { prefix = whole ∙ sym (append-nil header); place_is = refl; sizes = λ k d low. absurd (omega (arith, low)) })
+        (record { prefix = whole ∙ sym (append-nil header); offset_is = refl; sizes = λ k d low. absurd (omega (arith, low)) })
   ]
 ]

@@ -161,7 +161,7 @@ last_same (f ∷ a) more x y is = let tail : a ++ x ∷ [] ≡ a ++ y ∷ more =
 no_header_reads : (file : List ℕ) (forms : List (List ℕ)) (place at : ℕ) → ReadsTo file forms place → IsNoHeader file at → ⊥
 no_header_reads file forms place at reads none =
     let within = none.within in
-    let inside : at < place = omega (arith, within, reads.place_is) in
+    let inside : at < place = omega (arith, within, reads.offset_is) in
     none.differs (sym (get_or-take place file at 0 inside) ∙ ap (λ (l : List ℕ). get_or l at 0) reads.prefix
     ∙ get_or_append_left header (records forms) 0 at (omega (arith, within, length-header)))
 
@@ -174,7 +174,7 @@ no_header_before file a b one two before =
 module _ (file : List ℕ) (p q : ℕ) (events : List Event) (broken : IsBroken file p) (could : IsTrue (are_playable empty events))
     (reads : ReadsTo file (map event_encoding events) q) (before : p < q) (low : q < 2 ^ 40) where
   sizes : length (records (map event_encoding broken.events)) < length (records (map event_encoding events))
-  sizes = let place_p = broken.reads.place_is in let place_q = reads.place_is in omega (arith, before, place_p, place_q)
+  sizes = let offset_p = broken.reads.offset_is in let offset_q = reads.offset_is in omega (arith, before, offset_p, offset_q)
 
   next : NextForm (map event_encoding broken.events) (map event_encoding events) (drop p file) (drop q file)
   next = next_form (map event_encoding broken.events) (map event_encoding events) (drop p file) (drop q file)
@@ -182,7 +182,7 @@ module _ (file : List ℕ) (p q : ℕ) (events : List Event) (broken : IsBroken 
       sizes broken.reads.sizes reads.sizes
 
   room : p + 5 + length next.form < 2 ^ 40
-  room = let place_p = broken.reads.place_is in let place_q = reads.place_is in let within = next.within in omega (arith, low, place_p, place_q, within)
+  room = let offset_p = broken.reads.offset_is in let offset_q = reads.offset_is in let within = next.within in omega (arith, low, offset_p, offset_q, within)
 
   there : take (5 + length next.form) (drop p file) ≡ record_of next.form
   there = ap (λ (l : List ℕ). take (5 + length next.form) l) next.stands
@@ -193,7 +193,7 @@ module _ (file : List ℕ) (p q : ℕ) (events : List Event) (broken : IsBroken 
     | inl stuck ↦ stuck.no_record next.form next.short room there
     | inr unplayable ↦
         let longer : length (records (map event_encoding broken.events)) < length (records (map event_encoding broken.events ++ unplayable.bytes ∷ [])) =
-        (let place_p = broken.reads.place_is in let place_u = unplayable.reads.place_is in omega (arith, place_p, place_u)) in
+        (let offset_p = broken.reads.offset_is in let offset_u = unplayable.reads.offset_is in omega (arith, offset_p, offset_u)) in
         let last = next_form (map event_encoding broken.events) (map event_encoding broken.events ++ unplayable.bytes ∷ []) (drop p file)
         (drop (p + 5 + length unplayable.bytes) file)
         (sym (behind_header file (map event_encoding broken.events) p broken.reads)

@@ -108,7 +108,7 @@ HistoriesAreWhole = (s : State) (meta : Meta) → HasMetamodel s meta → IsWhol
 abbrev pub WorkspacesStand : Type 0
 WorkspacesStand = (s : State) (meta : Meta) (workspace : Workspace) → IsThere s meta workspace → StandsInHistory s.history workspace
 
--- the list with some more after it
+-- the second list is the first with some more after it
 abbrev pub IsPrefix : {X : Type 0} → List X → List X → Type 0
 IsPrefix before after = (more : List _) × (after ≡ before ++ more)
 

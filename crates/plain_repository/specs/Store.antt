@@ -24,7 +24,8 @@ pub record IsUnplayable (file : List ℕ) (events : List Event) (at : ℕ) : Typ
   pub reads : ReadsTo file (map event_encoding events ++ bytes ∷ []) (next_gate at (length bytes))
   pub no_event : (event : Event) → IsTrue (playable (played play empty events) event) → bytes ≢ event_encoding event
 
--- the records up to an offset below 2^40 are those of events, and there neither a closed gate nor a record of an event stands
+-- the records up to an offset below 2^40 are those of events that could be made, and neither a closed gate nor a record of an
+-- event that could be made stands there
 pub record IsBroken (file : List ℕ) (at : ℕ) : Type 0 where
   pub events : List Event
   pub playable : IsTrue (are_playable empty events)

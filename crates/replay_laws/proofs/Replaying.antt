@@ -93,7 +93,7 @@ none_of (event ∷ events) is = absurd cc
 
 stored_below : (file : List ℕ) (events : List Event) → StandsFor file (map event_encoding events) → (played play empty events).end < 2 ^ 40
 stored_below file events (inl new) = rw (none_of events new.1) (omega arith)
-stored_below file events (inr old) = omega (arith, ends_behind empty events, old.1.1.low, old.1.1.reads.place_is)
+stored_below file events (inr old) = omega (arith, ends_behind empty events, old.1.1.low, old.1.1.reads.offset_is)
 
 pub stores_replay : StoresReplay
 stores_replay file events stands print short =

@@ -411,7 +411,7 @@ commands_by_word =
     (codes "delete", delete_at) ∷
     (codes "move", move_at) ∷ feature_commands
 
--- what the word chooses of these
+-- the command of that word, read as its row of these says
 abbrev pub command_of_word : List (List ℕ × (Left → Result Command ℕ)) → List ℕ → Left → Result Command ℕ
 command_of_word [] word left = Err 1
 command_of_word (row ∷ rows) word left = if text_eq word row.0 then row.1 left else command_of_word rows word left

@@ -92,10 +92,10 @@ pub enum Refusal {
     Unsigned,
     /// 41: the rule of that number denies the command to the user.
     Denied { rule: u32 },
-    /// 42: no block of a script has room for the package of the event at that place, counted from 1.
-    TooLong { place: u32 },
-    /// 43: no line or block of a script holds the event at that place as it stands, counted from 1.
-    NotPrintable { place: u32 },
+    /// 42: no block of a script has room for the package of the event of that number, from 1.
+    TooLong { number: u32 },
+    /// 43: no line or block of a script holds the event of that number, from 1, as it stands.
+    NotPrintable { number: u32 },
 }
 
 /// What stands after a refusal's name.
@@ -177,8 +177,11 @@ impl Refusal {
             Refusal::OldForm => ("39 OldForm", Fields::Nothing),
             Refusal::Unsigned => ("40 Unsigned", Fields::Nothing),
             Refusal::Denied { rule } => ("41 Denied", Fields::One(u64::from(*rule))),
-            Refusal::TooLong { place } => ("42 TooLong", Fields::One(u64::from(*place))),
-            Refusal::NotPrintable { place } => ("43 NotPrintable", Fields::One(u64::from(*place))),
+            Refusal::TooLong { number } => ("42 TooLong", Fields::One(u64::from(*number))),
+            Refusal::NotPrintable { number } => (
+                "43 NotPrintable",
+                Fields::One(u64::from(*number)),
+            ),
         }
     }
 }

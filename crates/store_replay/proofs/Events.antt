@@ -106,8 +106,8 @@ module _ (after s : State) (event : Event) (made : IsPlayedEvent after s event) 
   lines_are : (answer : Result (List ℕ) PrintFault) → lines_again after.history event ≡ answer → lines_again s.history event ≡ answer
   lines_are answer is = sym (same_lines s event) ∙ ap (λ (t : State). lines_again t.history event) (sym made.state_is) ∙ is
 
-  place_is : after.events ≡ s.events + 1
-  place_is = ap (λ (t : State). t.events) made.state_is ∙ counted s event
+  number_is : after.events ≡ s.events + 1
+  number_is = ap (λ (t : State). t.events) made.state_is ∙ counted s event
 
   -- it has its lines
   pub has_lines : (bytes : List ℕ) → lines_again after.history event ≡ Ok bytes → (bytes ≡ said_of s event) × (true ≡ can_print s event)
@@ -127,7 +127,7 @@ module _ (after s : State) (event : Event) (made : IsPlayedEvent after s event) 
       let long = long_means (is_known h event) (is_too_long event) (is_not_printable h event) lines (lines_are (Err TooLong) is) in
       let none = refusal_line (refusal_of s event) in
       let no_print : can_print s event ≡ false = no_both (is_too_long event) (is_not_printable s.history event) long in
-      let why : refusals.TooLong after.events ≡ refusal_of s event = first_refusal (is_too_long event) after.events (s.events + 1) long place_is in (
+      let why : refusals.TooLong after.events ≡ refusal_of s event = first_refusal (is_too_long event) after.events (s.events + 1) long number_is in (
         told ∙ ap refusal_line why ∙ said_unless (can_print s event) lines none no_print,
         sym no_print,
       )
@@ -141,7 +141,7 @@ module _ (after s : State) (event : Event) (made : IsPlayedEvent after s event) 
       let bad = bad_means (is_known h event) (is_too_long event) (is_not_printable h event) lines (lines_are (Err NotPrintable) is) in
       let none = refusal_line (refusal_of s event) in
       let no_print : can_print s event ≡ false = no_bad (is_too_long event) (is_not_printable s.history event) bad.0 bad.1 in
-      let why : refusals.NotPrintable after.events ≡ refusal_of s event = other_refusal (is_too_long event) after.events (s.events + 1) bad.0 place_is in (
+      let why : refusals.NotPrintable after.events ≡ refusal_of s event = other_refusal (is_too_long event) after.events (s.events + 1) bad.0 number_is in (
         told ∙ ap refusal_line why ∙ said_unless (can_print s event) lines none no_print,
         sym no_print,
       )
@@ -184,7 +184,7 @@ not_memory fault other answer is apart (inr told) = told ∙ ap Err is
 -- the event that is read of them
 pub found_is : (after : State) (bytes : List ℕ) (found : Event) → ((event : Event) → IsEvent event → bytes ≡ event_encoding event → found ≡ event)
     → (was : IsPlayed after bytes) → found ≡ was.event
-found_is after bytes found reads was = reads was.event (playable_is_event was.before was.event was.made.could) was.spelt
+found_is after bytes found reads was = reads was.event (playable_is_event was.before was.event was.made.could) was.spelled
 
 -- what is printed of the event that is read is what is printed of that of the bytes
 pub said_again : (after : State) (bytes : List ℕ) (found : Event) (text : List ℕ) (can : Bool)

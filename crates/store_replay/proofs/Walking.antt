@@ -6,7 +6,7 @@ use Rattle.host_port.specs.Host.{Told, Disk, MayLeave, GoesOn, Throughout, Keeps
 use Rattle.host_port.proofs.Course.{adds_none, at_last, carry_on, course_on, keeps_input_on, kept_now, said_kept_now, told_next, rose_second}
 use Rattle.commit_journal.specs.Journal.{MountedFrom, ReadsTo, StandsFor}
 use Rattle.commit_journal.proofs.Mounting.{length-new_file}
-use Rattle.commit_journal.proofs.Torn.{left_settled}
+use Rattle.commit_journal.proofs.Torn.{left_stable}
 use Rattle.command_runs.specs.Runs.{played}
 use Rattle.op_form.specs.declared.event.Event.{Event}
 use Rattle.op_form.specs.Events.{event_encoding}
@@ -42,7 +42,7 @@ keeps_on : (entry a b : Told) → IsOpenedSince entry a → GoesOn entry a → G
 keeps_on entry a b since before course disk kept told =
     carry_on entry a b (IsUnopenedOrSame (disk_now entry) (said_now entry)) before course kept
     (λ told_here t low high. inr (λ x left.
-    let is = left_settled (disk_now a) x (since.settled told) (subst (λ d. MayLeave d x) (disk told_here t low high) left) in
+    let is = left_stable (disk_now a) x (since.stable told) (subst (λ d. MayLeave d x) (disk told_here t low high) left) in
     λ forms stood. subst (λ (l : List ℕ). StandsFor l forms) (sym is) (since.same told forms stood))) told
 
 -- ---- between two events
@@ -181,7 +181,7 @@ module _ (entry a b : Told) (opening : OpeningState) (walks : Walks entry a open
 abbrev pub is_played : (a b : Told) (old new : OpeningState) (bytes : List ℕ) (after : State) → PlaysEvent a b old new bytes → after ≡ new.state
     → IsPlayed after bytes
 is_played a b old new bytes after plays is =
-    record { before = old.state; event = plays.event; spelt = plays.spelt; made = record { could = plays.could; state_is = is ∙ plays.state_is } }
+    record { before = old.state; event = plays.event; spelled = plays.spelled; made = record { could = plays.could; state_is = is ∙ plays.state_is } }
 
 -- the file reads as the events so far and this one
 reads_more : (b : Told) (opening next : OpeningState) (made : List Event) (event : Event) → IsPlayedUpTo (disk_now b) next.state next.next (made ++ event ∷ [])

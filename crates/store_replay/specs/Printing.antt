@@ -39,5 +39,5 @@ pub record IsPlayedEvent (after before : State) (event : Event) : Type 0 where
 pub record IsPlayed (after : State) (bytes : List ℕ) : Type 0 where
   pub before : State
   pub event : Event
-  pub spelt : bytes ≡ event_encoding event
+  pub spelled : bytes ≡ event_encoding event
   pub made : IsPlayedEvent after before event

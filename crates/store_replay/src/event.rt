@@ -42,14 +42,14 @@ fn said_over(alloc: Global, repo: &Repo, event: &Event) -> Result<Said, AllocErr
     requires played { (s : State) × IsPlayedEvent repo.now s event.now }
     ensures { IfOk result (λ said. (s : State) → IsPlayedEvent repo.now s event.now → (said.bytes.items ≡ said_of s event.now) × (said.printable ≡ can_print s event.now)) }
 {
-    let place = repo.event_count();
+    let number = repo.event_count();
     match line_of(alloc, history(repo), event) {
         Ok(bytes) => Ok(Said {
             bytes,
             printable: true,
         }),
-        Err(PrintFault::TooLong) => refused(alloc, Refusal::TooLong { place }),
-        Err(PrintFault::NotPrintable) => refused(alloc, Refusal::NotPrintable { place }),
+        Err(PrintFault::TooLong) => refused(alloc, Refusal::TooLong { number }),
+        Err(PrintFault::NotPrintable) => refused(alloc, Refusal::NotPrintable { number }),
         Err(PrintFault::Memory) => Err(AllocError),
         Err(PrintFault::Unknown) => unreachable!(),
     }

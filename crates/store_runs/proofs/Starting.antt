@@ -20,8 +20,8 @@ use Rattle.store_runs.proofs.Halting.{halted}
 -- a reader that begins reads the input's script
 pub from_start : (rule : State → Item → Answer Event) (s : State) (input : List ℕ) (offset : ℕ) (pending : List ℕ) → offset ≡ 0 → pending ≡ []
     → serving_by rule s (script_from takes_block offset (pending ++ input)) ≡ serving_by rule s (script input)
-from_start rule s input offset pending place_is pending_is =
-    ap (λ (n : ℕ). serving_by rule s (script_from takes_block n (pending ++ input))) place_is
+from_start rule s input offset pending offset_is pending_is =
+    ap (λ (n : ℕ). serving_by rule s (script_from takes_block n (pending ++ input))) offset_is
     ∙ ap (λ (l : List ℕ). serving_by rule s (script_from takes_block 0 (l ++ input))) pending_is
 
 module _ (a : Told) (state : State) (task : Task) (made : List Event) (holds : IsStoreOf (disk_now a) state made) where

@@ -15,7 +15,7 @@ returns-in-Err-TooLong c =
     of_both c.refused.result _ _ _
     (λ said line none s made.
     let is = is_long c.args.repo.now s c.args.event.now made said.bytes.items (rw c.history.ensures at lines)
-    (line ∙ ap (λ n. refusal_line (refusals.TooLong n)) c.event_count-place.ensures) in
+    (line ∙ ap (λ n. refusal_line (refusals.TooLong n)) c.event_count-number.ensures) in
     (is.0, none ∙ is.1))
     c.refused.ensures.line c.refused.ensures.none
 
@@ -27,7 +27,7 @@ returns-in-Err-NotPrintable c =
     of_both c.refused-in-Err-NotPrintable.result _ _ _
     (λ said line none s made.
     let is = is_bad c.args.repo.now s c.args.event.now made said.bytes.items (rw c.history.ensures at lines)
-    (line ∙ ap (λ n. refusal_line (refusals.NotPrintable n)) c.event_count-place.ensures) in
+    (line ∙ ap (λ n. refusal_line (refusals.NotPrintable n)) c.event_count-number.ensures) in
     (is.0, none ∙ is.1))
     c.refused-in-Err-NotPrintable.ensures.line c.refused-in-Err-NotPrintable.ensures.none
 
