@@ -1,13 +1,11 @@
-//! The real outside of a program: the store's file and the standard streams, the words of the command line, and how it ends.
+//! The host of a program over one file, for any system: calls that a signal interrupts are made again, and those that do a part
+//! are gone on with. Over a system that reports, it is a host that reports.
 #![tactic(auto)]
 
-mod again;
-mod end;
+mod calls;
 mod host;
+mod known;
+mod opening;
 mod store;
-mod stream;
-mod words;
 
-pub use end::ended;
 pub use host::FileHost;
-pub use words::{WordsFault, words_of};

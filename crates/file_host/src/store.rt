@@ -1,144 +1,209 @@
-//! The store's file as the system has it.
-use crate::again::uninterrupted;
-use crate::stream::is_stream;
-use std::fs::{File, OpenOptions, TryLockError};
-use std::io::ErrorKind;
-use std::os::unix::fs::FileExt;
-use std::path::Path;
-use std::rt::Files;
-use std::{fs, io};
+//! The store, which is opened by the first call that needs it, and what is known of it without a call.
+ghost use Rattle.std.specs.Prelude.{◌≡◌, ◌⊎◌, ◌+◌, ◌^◌, ◌≤◌, length, take, drop, IsTrue, IfOk, OnOk, OnErr};
+ghost use Rattle.host_port.specs.Host.{disk_now, GoesOn, Throughout, KeepsDisk, KeepsSaid, KeepsInput, WrittenPart, written, synced};
+ghost use Rattle.system_port.specs.Stays.{Stays};
+ghost use Rattle.file_host.specs.Counting.{HasBytes};
+ghost use Rattle.file_host.specs.Known.{IsKnown};
 
-/// The name of the store in the working folder.
-pub(crate) const JOURNAL: &str = "emfstore.journal";
+use crate::calls::{measure, open, read_at_least, sync, write_all_at};
+use crate::known::{Ahead, Known};
+use host_port::Failed;
+use std::alloc::Global;
+use system_port::System;
 
-const FOLDER: &str = ".";
-
-const ROOT: &str = "/";
-
-/// The open file, which no other program that asks for the lock writes to meanwhile.
-#[derive(Drop)]
-struct Store {
-    file: File,
-    /// The file's length in bytes, where it is known: as the system reported it once, and then by what was written since.
-    len: Option<u64>,
-}
-
-/// Nothing is wrong where the system only says that it has no such call.
-fn unless_lacking(error: io::Error) -> io::Result<()> {
-    match error.kind() {
-        ErrorKind::Unsupported | ErrorKind::InvalidInput => Ok(()),
-        _ => Err(error),
-    }
-}
-
-/// Takes the lock of the file, or fails where another program has it. A file system that knows no locks gives none, and is used without.
-fn lock(file: &File) -> io::Result<()> {
-    match file.try_lock() {
-        Ok(()) => Ok(()),
-        Err(TryLockError::WouldBlock) => Err(io::Error::from(ErrorKind::WouldBlock)),
-        Err(TryLockError::Error(error)) => unless_lacking(error),
-    }
-}
-
-/// The folder that has the file's name. A link may lead to a file in another folder.
-fn open_folder<R: Files<File = File> + AllocGlobal>(rt: &R) -> io::Result<File> {
-    if !uninterrupted(|| fs::symlink_metadata(rt, JOURNAL))?.is_symlink() {
-        return File::open(rt, FOLDER);
-    }
-    let name = uninterrupted(|| fs::canonicalize(rt, JOURNAL))?;
-    File::open(rt, name.as_path().parent().unwrap_or(Path::new(ROOT)))
-}
-
-/// Makes sure that the folder keeps the name of a new file. A folder that may not be read, or whose system has no such
-/// sync, is left as it is.
-fn sync_folder<R: Files<File = File> + AllocGlobal>(rt: &R) -> io::Result<()> {
-    match open_folder(rt) {
-        Ok(folder) => folder.sync_all().or_else(unless_lacking),
-        Err(error) if error.kind() == ErrorKind::PermissionDenied => Ok(()),
-        Err(error) => Err(error),
-    }
-}
-
-/// The file, made where it is missing. What is opened gets the least number that is free, and that of a standard stream
-/// where one is closed. A second handle of what was opened never does.
-fn open_file<R: Files<File = File>>(rt: &R) -> io::Result<File> {
-    let mut how = OpenOptions::new();
-    how.read(true).write(true).create(true);
-    how.open(rt, JOURNAL)?.try_clone()
-}
-
-/// The file under its lock. Only then is it looked at: this fails, and lets the file and the lock go, where it is no regular
-/// file, or is open as a standard stream too.
-fn open_store<R: Files<File = File> + AllocGlobal>(rt: &R) -> io::Result<Store> {
-    let file = open_file(rt)?;
-    lock(&file)?;
-    let found = uninterrupted(|| file.metadata())?;
-    if !found.is_file() || is_stream(rt, &found) {
-        return Err(io::Error::from(ErrorKind::InvalidInput));
-    }
-    if found.len() == 0 {
-        sync_folder(rt)?;
-    }
-    Ok(Store {
-        file,
-        len: Some(found.len()),
-    })
-}
-
-impl Store {
-    fn len(&mut self) -> io::Result<u64> {
-        match self.len {
-            Some(len) => Ok(len),
-            None => {
-                let len = uninterrupted(|| self.file.metadata())?.len();
-                self.len = Some(len);
-                Ok(len)
-            }
+/// The file, opened where it is not.
+fn opened<S: System>(
+    system: &mut S,
+    file: Option<S::File>,
+    known: &mut Known,
+) -> Result<S::File, Failed>
+    requires known { IsKnown (S.told system.old) known.old }
+    ensures known { IsKnown (S.told system.new) known.new }
+    ensures stays { Stays (S.told system.old) (S.told system.new) }
+{
+    match file {
+        Some(file) => Ok(file),
+        None => {
+            let (file, found) = open(system)?;
+            known.len = Some(found);
+            Ok(file)
         }
     }
+}
 
-    fn write_at(&mut self, at: u64, bytes: &[u8]) -> io::Result<()> {
-        let len = self.len()?;
-        self.len = None;
-        self.file.write_all_at(bytes, at)?;
-        self.len = Some(len.max(at.saturating_add(bytes.len() as u64)));
-        Ok(())
+/// The length that is known, or else the one that the system tells.
+fn length_of<S: System>(system: &mut S, file: &S::File, known: &mut Known) -> Result<u64, Failed>
+    requires known { IsKnown (S.told system.old) known.old }
+    ensures known { IsKnown (S.told system.new) known.new }
+    ensures stays { Stays (S.told system.old) (S.told system.new) }
+    ensures length { IfOk result (λ n. IsTrue (S.told system.old).tells → n ≡ length (disk_now (S.told system.old)).now) }
+{
+    match known.len {
+        Some(len) => Ok(len),
+        None => {
+            let found = measure(system, file)?;
+            known.len = Some(found);
+            Ok(found)
+        }
     }
 }
 
-/// The store, which is opened by the first call that needs it.
-#[derive(Drop)]
-pub(crate) struct LazyStore<'a, R: Files<File = File> + AllocGlobal> {
-    rt: &'a R,
-    store: Option<Store>,
+/// Writes all of the bytes. The length stays known where they are written, and what was read ahead is forgotten.
+fn write_to<S: System>(
+    system: &mut S,
+    file: &S::File,
+    known: &mut Known,
+    at: u64,
+    bytes: &[u8],
+) -> Result<(), Failed>
+    requires known { IsKnown (S.told system.old) known.old }
+    requires offset { IsTrue (S.told system.old).tells → at ≤ length (disk_now (S.told system.old)).now }
+    requires limit { at + length bytes.now ≤ 2 ^ 40 }
+    ensures known { IsKnown (S.told system.new) known.new }
+    ensures course { GoesOn (S.told system.old) (S.told system.new) }
+    ensures said { KeepsSaid (S.told system.old) (S.told system.new) }
+    ensures input { KeepsInput (S.told system.old) (S.told system.new) }
+    ensures part { Throughout (S.told system.old) (S.told system.new)
+        (λ disk _. WrittenPart (disk_now (S.told system.old)) (record { from = at; to = at + length bytes.now }) disk) }
+    ensures whole { OnOk result (IsTrue (S.told system.old).tells → disk_now (S.told system.new) ≡ written (disk_now (S.told system.old)) at bytes.now) }
+{
+    let before = length_of(system, file, known)?;
+    known.forget();
+    write_all_at(system, file, at, bytes)?;
+    known.len = Some(before.max(at + bytes.len() as u64));
+    Ok(())
 }
 
-impl<'a, R: Files<File = File> + AllocGlobal> LazyStore<'a, R> {
-    pub(crate) fn new(rt: &'a R) -> LazyStore<'a, R> {
-        LazyStore { rt, store: None }
-    }
+/// The length of the store.
+pub(crate) fn len_of_store<S: System>(
+    system: &mut S,
+    file: &mut Option<S::File>,
+    known: &mut Known,
+) -> Result<u64, Failed>
+    requires known { IsKnown (S.told system.old) known.old }
+    ensures known { IsKnown (S.told system.new) known.new }
+    ensures stays { Stays (S.told system.old) (S.told system.new) }
+    ensures length { IfOk result (λ n. IsTrue (S.told system.old).tells → n ≡ length (disk_now (S.told system.old)).now) }
+{
+    let open = opened(system, file.take(), known)?;
+    let given = length_of(system, &open, known);
+    *file = Some(open);
+    given
+}
 
-    fn opened(&mut self) -> io::Result<&mut Store> {
-        let store = match self.store.take() {
-            Some(store) => store,
-            None => open_store(self.rt)?,
-        };
-        Ok(self.store.insert(store))
-    }
+/// Reads anew what is ahead of the offset, at least so many bytes of it.
+fn read_ahead<S: System>(
+    system: &mut S,
+    file: &S::File,
+    ahead: &mut Ahead,
+    at: u64,
+    least: usize,
+) -> Result<(), Failed>
+    requires { ahead.old.count ≡ 0 }
+    ensures stays { Stays (S.told system.old) (S.told system.new) }
+    ensures bytes { HasBytes (S.told system.new) ahead.new.from ahead.new.bytes.items ahead.new.count }
+    ensures from { OnOk result (ahead.new.from ≡ at) }
+    ensures least { OnOk result ((least ≤ ahead.new.count) × (ahead.new.count ≤ length ahead.new.bytes.items)) }
+{
+    let count = read_at_least(system, file, at, &mut ahead.bytes, least)?;
+    ahead.from = at;
+    ahead.count = count;
+    Ok(())
+}
 
-    pub(crate) fn len(&mut self) -> io::Result<u64> {
-        self.opened()?.len()
+/// Fills `into` with the file's bytes: from those that were read ahead, or else by reading ahead from there. More bytes than
+/// are read at once go straight to `into`.
+fn read_from<S: System>(
+    alloc: Global,
+    system: &mut S,
+    file: &S::File,
+    ahead: &mut Ahead,
+    at: u64,
+    into: &mut [u8],
+) -> Result<(), Failed>
+    requires known { HasBytes (S.told system.old) ahead.old.from ahead.old.bytes.items ahead.old.count }
+    ensures known { HasBytes (S.told system.new) ahead.new.from ahead.new.bytes.items ahead.new.count }
+    ensures stays { Stays (S.told system.old) (S.told system.new) }
+    ensures bytes { OnOk result (IsTrue (S.told system.old).tells → into.new ≡ take (length into.old) (drop at (disk_now (S.told system.old)).now)) }
+{
+    if let Some(part) = ahead.part(at, into.len()) {
+        into.copy_from_slice(part);
+        return Ok(());
     }
+    ahead.make_room(alloc);
+    let size = into.len();
+    if size > ahead.bytes.len() {
+        read_at_least(system, file, at, into, size)?;
+        return Ok(());
+    }
+    read_ahead(system, file, ahead, at, size)?;
+    into.copy_from_slice(&ahead.bytes[..size]);
+    Ok(())
+}
 
-    pub(crate) fn read_at(&mut self, at: u64, into: &mut [u8]) -> io::Result<()> {
-        self.opened()?.file.read_exact_at(into, at)
-    }
+/// Fills `into` with bytes of the store.
+pub(crate) fn read_store<S: System>(
+    alloc: Global,
+    system: &mut S,
+    file: &mut Option<S::File>,
+    known: &mut Known,
+    at: u64,
+    into: &mut [u8],
+) -> Result<(), Failed>
+    requires known { IsKnown (S.told system.old) known.old }
+    ensures known { IsKnown (S.told system.new) known.new }
+    ensures stays { Stays (S.told system.old) (S.told system.new) }
+    ensures bytes { OnOk result (IsTrue (S.told system.old).tells → into.new ≡ take (length into.old) (drop at (disk_now (S.told system.old)).now)) }
+{
+    let open = opened(system, file.take(), known)?;
+    let given = read_from(alloc, system, &open, &mut known.ahead, at, into);
+    *file = Some(open);
+    given
+}
 
-    pub(crate) fn write_at(&mut self, at: u64, bytes: &[u8]) -> io::Result<()> {
-        self.opened()?.write_at(at, bytes)
-    }
+/// Writes all of the bytes into the store.
+pub(crate) fn write_store<S: System>(
+    system: &mut S,
+    file: &mut Option<S::File>,
+    known: &mut Known,
+    at: u64,
+    bytes: &[u8],
+) -> Result<(), Failed>
+    requires known { IsKnown (S.told system.old) known.old }
+    requires offset { IsTrue (S.told system.old).tells → at ≤ length (disk_now (S.told system.old)).now }
+    requires limit { at + length bytes.now ≤ 2 ^ 40 }
+    ensures known { IsKnown (S.told system.new) known.new }
+    ensures course { GoesOn (S.told system.old) (S.told system.new) }
+    ensures said { KeepsSaid (S.told system.old) (S.told system.new) }
+    ensures input { KeepsInput (S.told system.old) (S.told system.new) }
+    ensures part { Throughout (S.told system.old) (S.told system.new)
+        (λ disk _. WrittenPart (disk_now (S.told system.old)) (record { from = at; to = at + length bytes.now }) disk) }
+    ensures whole { OnOk result (IsTrue (S.told system.old).tells → disk_now (S.told system.new) ≡ written (disk_now (S.told system.old)) at bytes.now) }
+{
+    let open = opened(system, file.take(), known)?;
+    let given = write_to(system, &open, known, at, bytes);
+    *file = Some(open);
+    given
+}
 
-    pub(crate) fn sync(&mut self) -> io::Result<()> {
-        self.opened()?.file.sync_data()
-    }
+/// Makes stable what was written into the store.
+pub(crate) fn sync_store<S: System>(
+    system: &mut S,
+    file: &mut Option<S::File>,
+    known: &mut Known,
+) -> Result<(), Failed>
+    requires known { IsKnown (S.told system.old) known.old }
+    ensures known { IsKnown (S.told system.new) known.new }
+    ensures course { GoesOn (S.told system.old) (S.told system.new) }
+    ensures said { KeepsSaid (S.told system.old) (S.told system.new) }
+    ensures input { KeepsInput (S.told system.old) (S.told system.new) }
+    ensures before_or_after { Throughout (S.told system.old) (S.told system.new)
+        (λ disk _. (disk ≡ disk_now (S.told system.old)) ⊎ (disk ≡ synced (disk_now (S.told system.old)))) }
+    ensures stable { OnOk result (IsTrue (S.told system.old).tells → disk_now (S.told system.new) ≡ synced (disk_now (S.told system.old))) }
+    ensures kept { OnErr result (KeepsDisk (S.told system.old) (S.told system.new)) }
+{
+    let open = opened(system, file.take(), known)?;
+    let given = sync(system, &open);
+    *file = Some(open);
+    given
 }

@@ -1,16 +1,7 @@
 //! The words of the command line.
 use std::env::Env;
 use std::io::ErrorKind;
-use thiserror::Error;
-
-/// Why there are no words of the command line.
-#[derive(Clone, Copy, Debug, PartialEq, Eq, Error)]
-pub enum WordsFault {
-    #[error("a word of the command line is no UTF-8")]
-    NotText,
-    #[error("there is no memory for the words of the command line")]
-    Memory,
-}
+use system_port::WordsFault;
 
 /// The words of the command line, without the program's name.
 pub fn words_of<R: Env + AllocGlobal>(rt: &R) -> Result<Vec<String>, WordsFault> {
