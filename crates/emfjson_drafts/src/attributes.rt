@@ -1,9 +1,9 @@
 //! The reading of attributes: single values and lists, tested for type, duplicates and upper bound; a default counts as
 //! not set.
-ghost use Rattle.std.specs.Prelude.{◌≡◌, ◌∷◌, IfOk, [], map};
-ghost use Rattle.std.specs.List.{list_any};
+ghost use Rattle.std.specs.Prelude.{◌≡◌, ◌∷◌, ◌++◌, true, IfOk, OnOk, [], List, map};
 ghost use Rattle.serde_json.specs.View.{view};
-ghost use Rattle.model_state.specs.Typing.{value_eq};
+ghost use Rattle.ecore_meta.specs.declared.meta.Value as meta_value;
+ghost use Rattle.value_counts.specs.Counts.{Counts};
 ghost use Rattle.emfjson_values.specs.Values.{value_in};
 ghost use Rattle.model_documents.specs.declared.fault.ModelFault.TheVariants.{BadValue};
 ghost use Rattle.emfjson_drafts.specs.Answers.{Gives, AppendsPart};
@@ -15,10 +15,11 @@ use crate::held::Held;
 use ecore_meta::{Metamodel, Scalar, Value};
 use emfjson_values::value_in;
 use model_documents::{DocAttr, ModelFault};
-use model_state::{MOST_ENTRIES, is_default, is_same_value, upper_of};
+use model_state::{MOST_ENTRIES, is_default, upper_of};
 use serde_json::Value as Json;
 use std::alloc::{AllocError, Global};
 use texts::List;
+use value_counts::ValueCounts;
 
 /// The values of a list, where a single value stands for the list of it alone.
 pub(crate) fn elements(json: &Json) -> &[Json]
@@ -61,28 +62,32 @@ fn value_of(
     }
 }
 
-fn is_among(values: &[Value], value: &Value) -> bool
-    ensures { result ≡ list_any (value_eq value.now) values.now }
-{
-    values.iter().any(|other| is_same_value(value, other))
-}
-
-/// The next value of a list after those before it.
+/// The next value of a list after those before it, which are counted where each is held once.
 fn next_value(
     alloc: Global,
     meta: &Metamodel,
     scalar: &Scalar,
     unique: bool,
-    values: &[Value],
+    seen: &ValueCounts,
     json: &Json,
 ) -> Result<Value, ModelFault>
-    ensures { Gives result (next_value meta.now scalar.now unique values.now (view json.now)) }
+    ensures { (vs : List meta_value.Value) → (unique ≡ true → Counts seen.now vs) → Gives result (next_value meta.now scalar.now unique vs (view json.now)) }
 {
     let value = value_of(alloc, meta, scalar, json)?;
-    if unique && is_among(values, &value) {
+    if unique && seen.has(&value) {
         return Err(ModelFault::BadValue);
     }
     Ok(value)
+}
+
+/// Counts the value, where each is held once.
+fn note(seen: &mut ValueCounts, unique: bool, value: &Value) -> Result<(), AllocError>
+    ensures { (vs : List meta_value.Value) → (unique ≡ true → Counts seen.old vs) → OnOk result (unique ≡ true → Counts seen.new (vs ++ value.now ∷ [])) }
+{
+    if unique {
+        seen.add(value)?;
+    }
+    Ok(())
 }
 
 fn values_in(
@@ -95,8 +100,11 @@ fn values_in(
     ensures { Gives result (values_in meta.now scalar.now unique (map view items.now)) }
 {
     let mut values = List::new(alloc);
+    let mut seen = ValueCounts::new(alloc);
     for item in items {
-        values.push(next_value(alloc, meta, scalar, unique, values.as_slice(), item)?)?;
+        let value = next_value(alloc, meta, scalar, unique, &seen, item)?;
+        note(&mut seen, unique, &value)?;
+        values.push(value)?;
     }
     Ok(values)
 }

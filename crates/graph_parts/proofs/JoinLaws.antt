@@ -1,6 +1,7 @@
 -- A list of values in pieces: what a change of one piece does to the whole.
 use Rattle.std.proofs.Common.{◌≡◌, ◌≤◌, ◌<◌, ◌+◌, ◌-◌, ◌++◌, ◌∷◌, ℕ, zero, suc, List, [], refl, sym, ap, ◌∙◌, length, take, drop, set, get_or, arith}
-use Rattle.std.specs.Prelude.{Bool, ◌||◌, slice_get}
+use Rattle.std.proofs.Common.{append-nil}
+use Rattle.std.specs.Prelude.{Bool, ◌||◌, None, slice_get}
 use Rattle.std.specs.List.{insert, remove, list_any}
 use Rattle.std.proofs.lemmas.List.{take-append-drop, append_assoc, length-append, get_or_default}
 use Rattle.std.proofs.lemmas.List.Edits.{insert-append_left, insert-append_right, remove-append_left, remove-append_right}
@@ -110,3 +111,24 @@ module _ (ps : Many) (k : ℕ) (p : List Value) (h : k < length ps) (is : p ≡ 
 pub any_joined : (t : Value → Bool) (ps : Many) → list_any (λ (p : List Value). list_any t p) ps ≡ list_any t (joined ps)
 any_joined t [] = refl
 any_joined t (p ∷ ps) = ap (λ b. list_any t p || b) (any_joined t ps) ∙ sym (list_any-append t p (joined ps))
+
+-- the values of one piece more
+pub joined_more : (ps : Many) (i : ℕ) (p : List Value) → i < length ps → p ≡ get_or ps i p → joined (take (i + 1) ps) ≡ joined (take i ps) ++ p
+joined_more [] i p h is = absurd (omega (arith, h))
+joined_more (q ∷ ps) zero p h is = append-nil q ∙ sym is
+joined_more (q ∷ ps) (suc i) p h is =
+    let next : suc i + 1 ≡ suc (i + 1) = omega arith in
+    ap (λ n. joined (take n (q ∷ ps))) next ∙ ap (λ l. q ++ l) (joined_more ps i p (omega (arith, h)) is) ∙ sym (append_assoc q (joined (take i ps)) p)
+
+-- a value put in, and taken out again
+pub removed_again : (vs : List Value) (at : ℕ) (v : Value) → at ≤ length vs → remove (insert vs at v) at ≡ vs
+removed_again [] zero v le = refl
+removed_again [] (suc at) v le = absurd (omega (arith, le))
+removed_again (x ∷ vs) zero v le = refl
+removed_again (x ∷ vs) (suc at) v le = ap (λ l. x ∷ l) (removed_again vs at v (omega (arith, le)))
+
+-- a value at an index within is there
+pub none_within : (l : List Value) (i : ℕ) → i < length l → slice_get l i ≡ None → ⊥
+none_within [] i h is = absurd (omega (arith, h))
+none_within (x ∷ l) zero h is = cc
+none_within (x ∷ l) (suc i) h is = none_within l i (omega (arith, h)) is

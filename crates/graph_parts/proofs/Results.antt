@@ -11,3 +11,11 @@ by_result P (Err x) a b f g = g b
 pub none_some : {A : Type 0} (o : Option A) → IsSome o → o ≡ None → ⊥
 none_some None h is = cc
 none_some (Some x) h is = cc
+
+pub on_ok : {T E : Type 0} {A B : Type 0} (r : Result T E) → OnOk r A → (A → B) → OnOk r B
+on_ok (Ok x) a f = f a
+on_ok (Err x) a f = tt
+
+pub on_err : {T E : Type 0} {A B : Type 0} (r : Result T E) → OnErr r A → (A → B) → OnErr r B
+on_err (Ok x) a f = tt
+on_err (Err x) a f = f a

@@ -1,29 +1,34 @@
 //! Many values in pieces, so that one is put in or taken out without moving all that stand after it.
-ghost use Rattle.std.specs.Prelude.{◌≡◌, ◌≤◌, ◌<◌, ◌+◌, ◌++◌, [], length, take, get_or, IfOk, OnOk, OnErr, slice_get};
+ghost use Rattle.std.specs.Prelude.{◌≡◌, ◌≤◌, ◌<◌, ◌+◌, ◌++◌, [], Some, length, take, get_or, IfOk, OnOk, OnErr, slice_get};
 ghost use Rattle.std.specs.List.{insert, remove, list_any};
 ghost use Rattle.std.specs.Option.{option_copied};
 ghost use Rattle.model_state.specs.Typing.{value_eq};
+ghost use Rattle.value_counts.specs.Counts.{Counts};
 ghost use Rattle.graph_parts.specs.Pieces.{joined};
 
 use ecore_meta::Value;
-use model_state::{contains, copied_values};
+use model_state::copied_values;
 use std::alloc::{AllocError, Global};
 use std::marker::Model;
 use texts::List;
+use value_counts::ValueCounts;
 
 /// How many values a piece gets before it is cut in two.
 pub(crate) const MOST_IN_PIECE: usize = 512;
 
-/// Many values, which contracts see as their list. A value is found by the lengths of the pieces before its own.
+/// Many values, which contracts see as their list. A value is found by the lengths of the pieces before its own. Beside them
+/// stands how often each is there, so that to ask whether one is there goes over none.
 #[derive(Drop)]
 pub(crate) struct Pieces {
     pieces: Vec<List<Value>>,
     len: usize,
+    counts: ValueCounts,
 }
 
 impl Model for Pieces {
     ghost use Rattle.std.specs.Prelude.{◌≡◌, ◌<◌, List, length};
     ghost use Rattle.ecore_meta.specs.declared.meta.Value as value;
+    ghost use Rattle.value_counts.specs.Counts.{Counts};
     ghost use Rattle.graph_parts.specs.Pieces.{joined, list_code};
 
     ghost Value = { List value.Value };
@@ -32,7 +37,7 @@ impl Model for Pieces {
 
     ghost view = { λ a. joined a.pieces.items };
 
-    ghost invariant = { λ a. (a.len ≡ length (joined a.pieces.items)) × (0 < length a.pieces.items) };
+    ghost invariant = { λ a. (a.len ≡ length (joined a.pieces.items)) × (0 < length a.pieces.items) × Counts a.counts (joined a.pieces.items) };
 }
 
 /// The piece in which an index falls, and the index in it.
@@ -158,11 +163,44 @@ fn joined_list(alloc: Global, pieces: &[List<Value>]) -> Result<List<Value>, All
     Ok(found)
 }
 
-/// Whether the value is in one of the pieces.
-fn have(pieces: &[List<Value>], v: &Value) -> bool
-    ensures { result ≡ list_any (λ p. list_any (value_eq v.now) p) pieces.now }
+/// The value at an index.
+fn value_at(pieces: &[List<Value>], at: usize) -> &Value
+    requires { at < length (joined pieces.now) }
+    ensures { slice_get (joined pieces.now) at ≡ Some result.now }
 {
-    pieces.iter().any(|piece| contains(piece.as_slice(), v))
+    let (piece, index) = find(pieces, at);
+    let values = pieces[piece].as_slice();
+    &values[index]
+}
+
+/// How often each value of the pieces is there. The error is out of memory.
+fn counted(alloc: Global, pieces: &[List<Value>]) -> Result<ValueCounts, AllocError>
+    ensures { IfOk result (λ c. Counts c (joined pieces.now)) }
+{
+    let mut counts = ValueCounts::new(alloc);
+    for piece in pieces {
+        counts.add_all(piece.as_slice())?;
+    }
+    Ok(counts)
+}
+
+/// Counts the value at the index too. The error is out of memory.
+fn add_at(counts: &mut ValueCounts, pieces: &[List<Value>], at: usize) -> Result<(), AllocError>
+    requires at { at < length (joined pieces.now) }
+    requires counts { Counts counts.old (remove (joined pieces.now) at) }
+    ensures ok { OnOk result (Counts counts.new (joined pieces.now)) }
+    ensures err { OnErr result (Counts counts.new (remove (joined pieces.now) at)) }
+{
+    counts.add(value_at(pieces, at))
+}
+
+/// Counts the value at the index no more.
+fn take_at(counts: &mut ValueCounts, pieces: &[List<Value>], at: usize)
+    requires at { at < length (joined pieces.now) }
+    requires counts { Counts counts.old (joined pieces.now) }
+    ensures { Counts counts.new (remove (joined pieces.now) at) }
+{
+    counts.take(value_at(pieces, at));
 }
 
 impl Pieces {
@@ -172,9 +210,11 @@ impl Pieces {
     {
         let mut pieces = Vec::new(alloc);
         pieces.push(copied_values(alloc, values)?)?;
+        let counts = counted(alloc, pieces.as_slice())?;
         Ok(Pieces {
             pieces,
             len: values.len(),
+            counts,
         })
     }
 
@@ -200,7 +240,7 @@ impl Pieces {
     pub(crate) fn has(&self, v: &Value) -> bool
         ensures { result ≡ list_any (value_eq v.now) self.now }
     {
-        have(self.pieces.as_slice(), v)
+        self.counts.has(v)
     }
 
     /// The values in one list, in memory of their own.
@@ -217,6 +257,7 @@ impl Pieces {
         Ok(Pieces {
             pieces: copied_pieces(alloc, self.pieces.as_slice())?,
             len: self.len,
+            counts: counted(alloc, self.pieces.as_slice())?,
         })
     }
 
@@ -230,6 +271,10 @@ impl Pieces {
             return Err(AllocError);
         };
         insert_among(&mut self.pieces, at, v)?;
+        if add_at(&mut self.counts, self.pieces.as_slice(), at).is_err() {
+            remove_among(&mut self.pieces, at);
+            return Err(AllocError);
+        }
         self.len = len;
         Ok(())
     }
@@ -239,6 +284,7 @@ impl Pieces {
         requires { at < length self.old }
         ensures { self.new ≡ remove self.old at }
     {
+        take_at(&mut self.counts, self.pieces.as_slice(), at);
         remove_among(&mut self.pieces, at);
         self.len -= 1;
     }
