@@ -14,7 +14,7 @@ use Rattle.model_state.specs.State.{State, written}
 use Rattle.model_state.specs.Good.{Good, Sound}
 use Rattle.model_state.specs.Steps.{writes, apply, fold}
 use Rattle.model_state.specs.declared.operation.Operation.{Operation}
-use Rattle.model_state.specs.Packages.{steps_of}
+use Rattle.model_state.specs.Packages.{steps_of, steps_all}
 use Rattle.model_laws.specs.Cells.{Cell, OfKind, OfRow, OfWhole, About, cell_eq, has, side, mirror_side, place_list, is_bounded, is_finite, Agree}
 use Rattle.model_laws.specs.Cells.{AgreeAt, step_writes, step_reads, kinds_read, kinds_written, needs, may_change, needs_all, may_change_all}
 use Rattle.model_laws.specs.Cells.{writes_all, reads_all}
@@ -25,7 +25,7 @@ use Rattle.model_laws.proofs.StepNeeds.{goes_by_needs}
 use Rattle.model_laws.proofs.StepTouches.{leaves_others}
 use Rattle.footprint.specs.Interference.{op_writes}
 use Rattle.footprint.specs.Same.{IsCell, Same}
-use Rattle.footprint.specs.Laws.{StepLeavesOthers, OperationLeavesOthers, StatesAreTheirCells, StepGoesByCells, OthersLeaveSame}
+use Rattle.footprint.specs.Laws.{StepLeavesOthers, OperationLeavesOthers, PackageLeavesOthers, StatesAreTheirCells, StepGoesByCells, OthersLeaveSame}
 use Rattle.footprint.proofs.Pairs.{keep_apart}
 
 -- ---- a step leaves the cells that it does not write
@@ -59,6 +59,9 @@ real_cell c is = tt
 pub operation_leaves_others : OperationLeavesOthers
 operation_leaves_others meta sound m n good o h c is out =
     run_leaves_others meta sound m n good (steps_of o) (ap (fold meta m) (sym (append-nil (steps_of o))) ∙ h) c (real_cell c is) out
+
+pub package_leaves_others : PackageLeavesOthers
+package_leaves_others meta sound m n good p h c is out = run_leaves_others meta sound m n good (steps_all p) h c (real_cell c is) out
 
 cell_real : (c : Cell) → IsReal c → IsCell c
 cell_real (About e) is = absurd is

@@ -3,7 +3,7 @@ use Rattle.std.specs.Prelude.{◌≡◌, Bool, false, List, [], ◌∷◌, ◌||
 use Rattle.std.specs.List.{list_any}
 use Rattle.ecore_meta.specs.Meta.{Meta}
 use Rattle.model_state.specs.declared.operation.Operation.{Operation}
-use Rattle.model_state.specs.Packages.{steps_of}
+use Rattle.model_state.specs.Packages.{steps_of, steps_all}
 use Rattle.model_laws.specs.Cells.{Cell, has, writes_all, reads_all}
 
 -- the cells that the steps of an operation write
@@ -13,6 +13,10 @@ op_writes meta o = writes_all meta (steps_of o)
 -- the cells that the steps of an operation read
 abbrev pub op_reads : Operation → List Cell
 op_reads o = reads_all (steps_of o)
+
+-- the cells that the operations of a package write
+abbrev pub package_writes : Meta → List Operation → List Cell
+package_writes meta p = writes_all meta (steps_all p)
 
 -- a cell of the one list is in the other
 abbrev pub meets : List Cell → List Cell → Bool

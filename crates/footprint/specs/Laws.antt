@@ -8,7 +8,7 @@ use Rattle.model_state.specs.Good.{Good, Sound}
 use Rattle.model_state.specs.declared.operation.Operation.{Operation}
 use Rattle.model_state.specs.Packages.{steps_of, fold_package}
 use Rattle.model_laws.specs.Cells.{Cell, has, Agree, step_writes, AreDisjoint}
-use Rattle.footprint.specs.Interference.{op_writes, op_reads, cells_interfere, interferes, NoPair}
+use Rattle.footprint.specs.Interference.{op_writes, op_reads, package_writes, cells_interfere, interferes, NoPair}
 use Rattle.footprint.specs.Same.{IsCell, Same}
 
 -- a step that can be taken leaves each cell that it does not write
@@ -20,6 +20,11 @@ StepLeavesOthers = (meta : Meta) (m : State) → Good meta m → (s : Step) → 
 abbrev pub OperationLeavesOthers : Type 0
 OperationLeavesOthers = (meta : Meta) → Sound meta → (m n : State) → Good meta m → (o : Operation) → fold_package meta m (o ∷ []) ≡ Some n
     → (c : Cell) → IsCell c → has (op_writes meta o) c ≡ false → Agree meta m n c
+
+-- so does a package leave each cell that none of its operations writes
+abbrev pub PackageLeavesOthers : Type 0
+PackageLeavesOthers = (meta : Meta) → Sound meta → (m n : State) → Good meta m → (p : List Operation) → fold_package meta m p ≡ Some n
+    → (c : Cell) → IsCell c → has (package_writes meta p) c ≡ false → Agree meta m n c
 
 -- states that agree at each cell are equal
 abbrev pub StatesAreTheirCells : Type 0

@@ -1,10 +1,11 @@
 //! The laws of cells, of interference, and of operations that don't interfere. A law is the contract of a function that does nothing.
-ghost use Rattle.footprint.specs.Laws.{StepLeavesOthers, OperationLeavesOthers, StatesAreTheirCells, StepGoesByCells, OthersLeaveSame, InterferenceIsSymmetric, InterferenceIsOfCells, InterferenceIsExact, InterferenceHasACell, OperationsExchange, PackagesExchange, PackagesSideBySide};
+ghost use Rattle.footprint.specs.Laws.{StepLeavesOthers, OperationLeavesOthers, PackageLeavesOthers, StatesAreTheirCells, StepGoesByCells, OthersLeaveSame, InterferenceIsSymmetric, InterferenceIsOfCells, InterferenceIsExact, InterferenceHasACell, OperationsExchange, PackagesExchange, PackagesSideBySide};
 
-/// A step leaves each cell that it doesn't write, and so does an operation. No cell is missing: states that agree at each are equal.
+/// A step leaves each cell that it doesn't write, and so do an operation and a package. No cell is missing: states that agree at each are equal.
 pub fn law_of_writes()
     ensures step { StepLeavesOthers }
     ensures operation { OperationLeavesOthers }
+    ensures package { PackageLeavesOthers }
     ensures whole { StatesAreTheirCells }
 {}
 

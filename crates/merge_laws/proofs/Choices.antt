@@ -25,7 +25,7 @@ same_mine (b ∷ bs) [] i j h = refl
 same_mine (b ∷ bs) (Theirs ∷ sides) i j h = λ t. h.0 t || same_mine bs sides i j h.1 t
 same_mine (b ∷ bs) (Mine ∷ sides) i j h = same_mine bs sides i j h.1
 
-suc_same : (a b : ℕ) → suc a ≡ suc b → a ≡ b
+pub suc_same : (a b : ℕ) → suc a ≡ suc b → a ≡ b
 suc_same a b h = cc
 
 -- of a pair in one bucket, one is dropped

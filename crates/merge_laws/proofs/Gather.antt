@@ -82,6 +82,23 @@ pub kept_dropped : (meta : Meta) (p q : ℕ → Bool) (os ps : List Operation)
     → NoPair meta (kept p os) (dropped q ps)
 kept_dropped meta p q os ps says = kept_pairs meta p os (dropped q ps) (λ i a at is. free_dropped meta a q ps (λ k b there on. says i k a b at there is on))
 
+-- each operation at a position that the test passes is free of the list
+dropped_pairs : (meta : Meta) (p : ℕ → Bool) (os qs : List Operation)
+    → ((i : ℕ) (a : Operation) → slice_get os i ≡ Some a → p i ≡ true → Free meta a qs) → NoPair meta (dropped p os) qs
+dropped_pairs meta p [] qs free = tt
+dropped_pairs meta p (o ∷ os) qs free =
+    let rest = dropped_pairs meta (λ i. p (suc i)) os qs (λ i a at is. free (suc i) a at is) in
+    elim (p 0) as (λ t. p 0 ≡ t → NoPair meta (cond t (o ∷ dropped (λ i. p (suc i)) os) (dropped (λ i. p (suc i)) os)) qs) [
+      | true ↦ λ is. (free 0 o refl is, rest)
+      | false ↦ λ _. rest
+    ] refl
+
+pub dropped_dropped : (meta : Meta) (p q : ℕ → Bool) (os ps : List Operation)
+    → ((i k : ℕ) (a b : Operation) → slice_get os i ≡ Some a → slice_get ps k ≡ Some b → p i ≡ true → q k ≡ true → interferes meta a b ≡ false)
+    → NoPair meta (dropped p os) (dropped q ps)
+dropped_dropped meta p q os ps says =
+    dropped_pairs meta p os (dropped q ps) (λ i a at is. free_dropped meta a q ps (λ k b there on. says i k a b at there is on))
+
 pub kept_kept : (meta : Meta) (p q : ℕ → Bool) (os ps : List Operation)
     → ((i k : ℕ) (a b : Operation) → slice_get os i ≡ Some a → slice_get ps k ≡ Some b → p i ≡ false → q k ≡ false → interferes meta a b ≡ false)
     → NoPair meta (kept p os) (kept q ps)

@@ -4,7 +4,7 @@ use Rattle.ecore_meta.specs.Meta.{Meta}
 use Rattle.model_state.specs.declared.operation.Operation.{Operation}
 use Rattle.footprint.specs.Buckets.{labels, buckets}
 use Rattle.footprint.specs.declared.bucket.Bucket.{Bucket}
-use Rattle.merge_laws.specs.Grouping.{GroupInterfering}
+use Rattle.merge_laws.specs.Grouping.{GroupInterfering, AreSeparate}
 use Rattle.merge_laws.specs.Order.{InOrder}
 use Rattle.merge_laws.specs.Classes.{Linked, AreClasses}
 
@@ -24,6 +24,10 @@ BucketsAreClasses = (meta : Meta) (theirs mine : List Operation) → AreClasses 
 -- the buckets stand in the order of their first operations, and the positions in each rise
 abbrev pub BucketsInOrder : Type 0
 BucketsInOrder = (meta : Meta) (theirs mine : List Operation) → InOrder (buckets meta theirs mine)
+
+-- no operation is in two buckets
+abbrev pub BucketsAreSeparate : Type 0
+BucketsAreSeparate = (meta : Meta) (theirs mine : List Operation) → AreSeparate (buckets meta theirs mine)
 
 -- a list of buckets that are the components with operations of both sides, in order, is the buckets
 abbrev pub BucketsLeaveNoChoice : Type 0

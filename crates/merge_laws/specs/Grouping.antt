@@ -1,5 +1,5 @@
 -- What a merge needs of buckets.
-use Rattle.std.specs.Prelude.{◌≡◌, ℕ, Bool, true, List, [], ◌∷◌, Some, slice_get, nat_eq, ◌&&◌}
+use Rattle.std.specs.Prelude.{◌≡◌, ℕ, Bool, true, false, List, [], ◌∷◌, Some, slice_get, nat_eq, ◌&&◌}
 use Rattle.std.specs.List.{list_any}
 use Rattle.ecore_meta.specs.Meta.{Meta}
 use Rattle.model_state.specs.declared.operation.Operation.{Operation}
@@ -23,6 +23,19 @@ SameMine (b ∷ bs) i j = (is_in i b.mine ≡ is_in j b.mine) × SameMine bs i j
 -- a position of theirs and one of mine are in one bucket
 abbrev pub shares : List Bucket → ℕ → ℕ → Bool
 shares bs i k = list_any (λ b. is_in i b.theirs && is_in k b.mine) bs
+
+-- the position of theirs is in one of the buckets
+abbrev pub in_theirs : ℕ → List Bucket → Bool
+in_theirs i bs = list_any (λ b. is_in i b.theirs) bs
+
+-- the position of mine is in one of the buckets
+abbrev pub in_mine : ℕ → List Bucket → Bool
+in_mine k bs = list_any (λ b. is_in k b.mine) bs
+
+-- a position of either side that is in a bucket is in no later one
+abbrev pub AreSeparate : List Bucket → Type 0
+AreSeparate [] = Unit {0}
+AreSeparate (b ∷ bs) = ((i : ℕ) → is_in i b.theirs ≡ true → in_theirs i bs ≡ false) × ((k : ℕ) → is_in k b.mine ≡ true → in_mine k bs ≡ false) × AreSeparate bs
 
 -- operations that interfere are in the same buckets, and in one where they are of both sides
 pub record GroupInterfering (meta : Meta) (theirs mine : List Operation) (bs : List Bucket) : Type 0 where

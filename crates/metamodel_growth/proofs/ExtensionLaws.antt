@@ -128,11 +128,11 @@ module _ (m : Meta) (is : IsMetamodel m) where
       one_name (λ (x : Enum). x.name) m.enums is.named.enums i j x.0 y.0 x.1 y.1
       (sym (ap (λ o. option_map_or (λ (x : Enum). x.name) o []) x.1) ∙ e ∙ ap (λ o. option_map_or (λ (x : Enum). x.name) o []) y.1)
 
-  owner_is : (i : ℕ) (x : Feature) → slice_get m.features i ≡ Some x → owner_name m i ≡ class_name m x.owner
+  pub owner_is : (i : ℕ) (x : Feature) → slice_get m.features i ≡ Some x → owner_name m i ≡ class_name m x.owner
   owner_is i x at = ap (λ o. option_map_or (class_name m) (option_map (λ (feature : Feature). feature.owner) o) []) at
 
   -- the feature stands in the list of the class that declares it
-  own_place : (i : ℕ) (x : Feature) → slice_get m.features i ≡ Some x → slice_get (features_of m x.owner) (place_in (features_of m x.owner) i) ≡ Some i
+  pub own_place : (i : ℕ) (x : Feature) → slice_get m.features i ≡ Some x → slice_get (features_of m x.owner) (place_in (features_of m x.owner) i) ≡ Some i
   own_place i x at =
       placed (features_of m x.owner) i
       (sym (has_any m x.owner i) ∙ has_declared m is.lists x.owner i

@@ -7,3 +7,4 @@ pub mod CodeLaws
 pub mod PlaceLaws
 pub mod SameLaws
 pub mod IdentityLaws
+pub mod EvolvedLaws

@@ -1,4 +1,5 @@
 pub mod Evolved
+pub mod EvolvedLaws
 pub mod Extension
 pub mod Order
 pub mod Preserves

@@ -16,5 +16,5 @@ mod same;
 
 pub use fault::EvolveFault;
 pub use growth::evolve;
-pub use laws::law_of_same;
+pub use laws::{law_of_evolved, law_of_same};
 pub use same::is_same;

@@ -9,7 +9,7 @@ use Rattle.std.proofs.lemmas.Str.{is_utf8-from_IsUtf8, IsUtf8-from_is_utf8}
 use Rattle.std.proofs.lemmas.List.Elements.{All-weaker}
 use Rattle.std.proofs.lemmas.List.Sums.{AllPass-from_list_all, list_all-from_AllPass}
 use Rattle.byte_form.specs.Laws.{IsShortText}
-use Rattle.ecore_meta.specs.declared.meta.Value.{Value}
+use Rattle.ecore_meta.specs.declared.meta.Value.{Value as MetaValue}
 use Rattle.ecore_meta.specs.declared.meta.Value.TheVariants.{Text, Flag, Whole, Literal}
 use Rattle.model_state.specs.Ident.{is_id}
 use Rattle.model_state.specs.Names.{is_name}
@@ -22,6 +22,8 @@ use Rattle.model_state.specs.declared.operation.Operation.TheVariants.{Simple, C
 use Rattle.op_form.specs.declared.event.Event.{Event}
 use Rattle.op_form.specs.declared.event.Event.TheVariants.{Init, Checkout, Edit, Begin, End, Undo, Discard, Tidy, Commit, Branch, Tag, Update, Merge}
 use Rattle.op_form.specs.declared.event.Event.TheVariants.{Drop, Evolve, Upgrade, Signed}
+use Rattle.op_form.specs.Rows.{Format, Nothing, Number, LongNumber, AnyText, OfPackage, Then, Value, by_row}
+use Rattle.op_form.specs.Formed.{AreFields, are_fields}
 use Rattle.op_form.specs.Formed.{IsU32, IsU64, IsIdText, IsNameText, IsGiven, IsList, IsSomeList, IsValue, IsPlace, IsStep, IsOperation, IsPackage}
 use Rattle.op_form.specs.Formed.{IsEvent, is_u32, is_u64, is_i64, is_short_text, is_given, is_list, is_some_list, is_value, is_place, is_step}
 use Rattle.op_form.specs.Formed.{is_operation, is_package, is_event}
@@ -102,7 +104,7 @@ module _ {X : Type 0} {test : X → Bool} {Is : X → Type 0} (told : (x : X) �
         holds = λ h. all.holds (h.0, (h.1, h.2));
       }
 
-value_told : (v : Value) → Told (is_value v) (IsValue v)
+value_told : (v : MetaValue) → Told (is_value v) (IsValue v)
 unfolding is_value
 value_told (Text t) = text_told t
 value_told (Flag b) = always
@@ -138,25 +140,33 @@ package_told : (operations : List Operation) → Told (is_package operations) (I
 unfolding is_package
 package_told operations = list_told operation_told operations
 
+fields_told : (format : Format) (x : Value format) → Told (are_fields format x) (AreFields format x)
+fields_told Nothing x = always
+fields_told Number n = u32_told n
+fields_told LongNumber n = u64_told n
+fields_told AnyText text = text_told text
+fields_told OfPackage operations = package_told operations
+fields_told (Then first second) x = two (fields_told first x.0) (fields_told second x.1)
+
 event_told : (e : Event) → Told (is_event e) (IsEvent e)
 unfolding is_event
-event_told (Init text) = text_told text
-event_told (Checkout version branch) = two (u32_told version) (u32_told branch)
-event_told (Edit ws operations) = two (u32_told ws) (package_told operations)
-event_told (Begin ws name) = two (u32_told ws) (text_told name)
-event_told (End ws) = u32_told ws
-event_told (Undo ws) = u32_told ws
-event_told (Discard ws) = u32_told ws
-event_told (Tidy ws) = u32_told ws
-event_told (Commit ws message) = two (u32_told ws) (text_told message)
-event_told (Branch ws name) = two (u32_told ws) (text_told name)
-event_told (Tag name version) = two (text_told name) (u32_told version)
-event_told (Update ws choices) = two (u32_told ws) (text_told choices)
-event_told (Merge ws branch choices) = three (u32_told ws) (u32_told branch) (text_told choices)
-event_told (Drop ws) = u32_told ws
-event_told (Evolve text) = text_told text
-event_told Upgrade = always
-event_told (Signed ws author moment message) = four (u32_told ws) (text_told author) (u64_told moment) (text_told message)
+event_told (Init text) = fields_told AnyText text
+event_told (Checkout version branch) = fields_told (Then Number Number) (version, branch)
+event_told (Edit ws operations) = fields_told (Then Number OfPackage) (ws, operations)
+event_told (Begin ws name) = fields_told (Then Number AnyText) (ws, name)
+event_told (End ws) = fields_told Number ws
+event_told (Undo ws) = fields_told Number ws
+event_told (Discard ws) = fields_told Number ws
+event_told (Tidy ws) = fields_told Number ws
+event_told (Commit ws message) = fields_told (Then Number AnyText) (ws, message)
+event_told (Branch ws name) = fields_told (Then Number AnyText) (ws, name)
+event_told (Tag name version) = fields_told (Then AnyText Number) (name, version)
+event_told (Update ws letters) = fields_told (Then Number AnyText) (ws, letters)
+event_told (Merge ws branch letters) = fields_told (Then Number (Then Number AnyText)) (ws, (branch, letters))
+event_told (Drop ws) = fields_told Number ws
+event_told (Evolve text) = fields_told AnyText text
+event_told Upgrade = fields_told Nothing tt
+event_told (Signed ws author moment message) = fields_told (Then Number (Then AnyText (Then LongNumber AnyText))) (ws, (author, (moment, message)))
 
 -- what passes the test has an encoding, and what has one passes it
 pub is_event_is : (e : Event) → is_event e ≡ true → IsEvent e

@@ -4,7 +4,7 @@ use Rattle.std.specs.Int.{w64}
 use Rattle.std.specs.List.{list_all}
 use Rattle.std.specs.Str.{is_utf8}
 use Rattle.byte_form.specs.Laws.{IsShortText}
-use Rattle.ecore_meta.specs.declared.meta.Value.{Value}
+use Rattle.ecore_meta.specs.declared.meta.Value.{Value as MetaValue}
 use Rattle.ecore_meta.specs.declared.meta.Value.TheVariants.{Text, Flag, Whole, Literal}
 use Rattle.model_state.specs.Ident.{is_id}
 use Rattle.model_state.specs.Names.{is_name}
@@ -15,8 +15,7 @@ use Rattle.model_state.specs.declared.step.Step.TheVariants.{Put, Ins, Del, Shif
 use Rattle.model_state.specs.declared.operation.Operation.{Operation}
 use Rattle.model_state.specs.declared.operation.Operation.TheVariants.{Simple, Composite}
 use Rattle.op_form.specs.declared.event.Event.{Event}
-use Rattle.op_form.specs.declared.event.Event.TheVariants.{Init, Checkout, Edit, Begin, End, Undo, Discard, Tidy, Commit, Branch, Tag, Update, Merge}
-use Rattle.op_form.specs.declared.event.Event.TheVariants.{Drop, Evolve, Upgrade, Signed}
+use Rattle.op_form.specs.Rows.{Format, Nothing, Number, LongNumber, AnyText, OfPackage, Then, Value, by_row}
 
 -- ---- definitions
 -- a number of 32 bits
@@ -49,7 +48,7 @@ abbrev pub IsSomeList : {X : Type 0} → (X → Type 0) → List X → Type 0
 IsSomeList Is xs = (1 ≤ length xs) × (length xs < 2 ^ 32) × All Is xs
 
 -- a value that has an encoding
-abbrev pub IsValue : Value → Type 0
+abbrev pub IsValue : MetaValue → Type 0
 IsValue (Text t) = IsShortText t
 IsValue (Flag b) = Unit {0}
 IsValue (Whole z) = FitsSigned w64 z
@@ -84,25 +83,18 @@ IsOperation (Composite name steps) = IsNameText name × IsSomeList IsStep steps
 abbrev pub IsPackage : List Operation → Type 0
 IsPackage operations = IsList IsOperation operations
 
+-- fields that have an encoding
+abbrev pub AreFields : (format : Format) → Value format → Type 0
+AreFields Nothing x = Unit {0}
+AreFields Number n = IsU32 n
+AreFields LongNumber n = IsU64 n
+AreFields AnyText text = IsShortText text
+AreFields OfPackage operations = IsPackage operations
+AreFields (Then first second) x = AreFields first x.0 × AreFields second x.1
+
 -- an event that has an encoding
 abbrev pub IsEvent : Event → Type 0
-IsEvent (Init text) = IsShortText text
-IsEvent (Checkout version branch) = IsU32 version × IsU32 branch
-IsEvent (Edit ws operations) = IsU32 ws × IsPackage operations
-IsEvent (Begin ws name) = IsU32 ws × IsShortText name
-IsEvent (End ws) = IsU32 ws
-IsEvent (Undo ws) = IsU32 ws
-IsEvent (Discard ws) = IsU32 ws
-IsEvent (Tidy ws) = IsU32 ws
-IsEvent (Commit ws message) = IsU32 ws × IsShortText message
-IsEvent (Branch ws name) = IsU32 ws × IsShortText name
-IsEvent (Tag name version) = IsShortText name × IsU32 version
-IsEvent (Update ws choices) = IsU32 ws × IsShortText choices
-IsEvent (Merge ws branch choices) = IsU32 ws × (IsU32 branch × IsShortText choices)
-IsEvent (Drop ws) = IsU32 ws
-IsEvent (Evolve text) = IsShortText text
-IsEvent Upgrade = Unit {0}
-IsEvent (Signed ws author moment message) = IsU32 ws × (IsShortText author × (IsU64 moment × IsShortText message))
+IsEvent event = by_row (λ tag format x. AreFields format x) event
 
 -- ---- tests
 -- a number of 32 bits
@@ -136,7 +128,7 @@ abbrev pub is_some_list : {X : Type 0} → (X → Bool) → List X → Bool
 is_some_list test xs = nat_le 1 (length xs) && is_u32 (length xs) && list_all test xs
 
 -- is there an encoding of the value
-unfoldable pub is_value : Value → Bool
+unfoldable pub is_value : MetaValue → Bool
 is_value (Text t) = is_short_text t
 is_value (Flag b) = true
 is_value (Whole z) = is_i64 z
@@ -171,22 +163,15 @@ is_operation (Composite name steps) = is_name name && is_some_list is_step steps
 unfoldable pub is_package : List Operation → Bool
 is_package operations = is_list is_operation operations
 
+-- is there an encoding of the fields
+abbrev pub are_fields : (format : Format) → Value format → Bool
+are_fields Nothing x = true
+are_fields Number n = is_u32 n
+are_fields LongNumber n = is_u64 n
+are_fields AnyText text = is_short_text text
+are_fields OfPackage operations = is_package operations
+are_fields (Then first second) x = are_fields first x.0 && are_fields second x.1
+
 -- is there an encoding of the event
 unfoldable pub is_event : Event → Bool
-is_event (Init text) = is_short_text text
-is_event (Checkout version branch) = is_u32 version && is_u32 branch
-is_event (Edit ws operations) = is_u32 ws && is_package operations
-is_event (Begin ws name) = is_u32 ws && is_short_text name
-is_event (End ws) = is_u32 ws
-is_event (Undo ws) = is_u32 ws
-is_event (Discard ws) = is_u32 ws
-is_event (Tidy ws) = is_u32 ws
-is_event (Commit ws message) = is_u32 ws && is_short_text message
-is_event (Branch ws name) = is_u32 ws && is_short_text name
-is_event (Tag name version) = is_short_text name && is_u32 version
-is_event (Update ws choices) = is_u32 ws && is_short_text choices
-is_event (Merge ws branch choices) = is_u32 ws && is_u32 branch && is_short_text choices
-is_event (Drop ws) = is_u32 ws
-is_event (Evolve text) = is_short_text text
-is_event Upgrade = true
-is_event (Signed ws author moment message) = is_u32 ws && is_short_text author && is_u64 moment && is_short_text message
+is_event event = by_row (λ tag format x. are_fields format x) event

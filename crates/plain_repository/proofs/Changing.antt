@@ -28,13 +28,15 @@ use Rattle.plain_repository.specs.Composites.{with_open, with_closed}
 use Rattle.plain_repository.specs.Local.{without_last, can_undo, without_any, can_discard}
 use Rattle.plain_repository.specs.Tidying.{tidied, can_tidy}
 use Rattle.plain_repository.specs.Merging.{updated, can_update, merged_with, can_merge}
-use Rattle.plain_repository.specs.Events.{by_meta, effect, playable, playable_with, suits}
+use Rattle.plain_repository.specs.Changes.{Change, applied}
+use Rattle.plain_repository.specs.Events.{by_meta, change_of, effect, playable, playable_with, suits}
 use Rattle.plain_repository.specs.Laws.{EventsChange}
 use Rattle.finite_maps.proofs.EqualLaws.{nat_equality}
 use Rattle.plain_repository.proofs.Encodings.{and_left, and_right, fitting, suiting}
 use Rattle.plain_repository.proofs.Evolving.{grown_other}
 use Rattle.plain_repository.proofs.Merging.{changed_is}
 use Rattle.plain_repository.proofs.Places.{of_number, is_of_number}
+use Rattle.plain_repository.proofs.Shapes.{is_first}
 
 -- ---- lists
 -- a list with something after it is another
@@ -202,23 +204,11 @@ evolve_changes s meta text is could same =
 effect_changes : (s : State) (m : Option Meta) (e : Event) → s.meta ≡ m → IsTrue (is_event e) → IsTrue (suits s.upgraded e)
     → IsTrue (playable_with s m e) → effect s e ≡ s → ⊥
 unfolding is_event
-effect_changes s None (Init text) is formed suited could same = init_changes (metamodel_of text) could (ap (λ (x : State). x.meta) same ∙ is)
-effect_changes s None (Checkout version branch) is formed suited could same = absurd cc
-effect_changes s None (Edit k operations) is formed suited could same = absurd cc
-effect_changes s None (Begin k name) is formed suited could same = absurd cc
-effect_changes s None (End k) is formed suited could same = absurd cc
-effect_changes s None (Undo k) is formed suited could same = absurd cc
-effect_changes s None (Discard k) is formed suited could same = absurd cc
-effect_changes s None (Tidy k) is formed suited could same = absurd cc
-effect_changes s None (Commit k message) is formed suited could same = absurd cc
-effect_changes s None (Branch k name) is formed suited could same = absurd cc
-effect_changes s None (Tag name version) is formed suited could same = absurd cc
-effect_changes s None (Update k letters) is formed suited could same = absurd cc
-effect_changes s None (Merge k branch letters) is formed suited could same = absurd cc
-effect_changes s None (Drop k) is formed suited could same = absurd cc
-effect_changes s None (Evolve text) is formed suited could same = absurd cc
-effect_changes s None Upgrade is formed suited could same = absurd cc
-effect_changes s None (Signed k author moment message) is formed suited could same = absurd cc
+effect_changes s None e is formed suited could same =
+    let first = is_first (change_of e) could in
+    let begun : meta_of_read (metamodel_of first.text) ≡ None =
+    ap (λ (c : Change). (applied c s).meta) (sym first.is) ∙ ap (λ (x : State). x.meta) same ∙ is in
+    init_changes (metamodel_of first.text) first.reads begun
 effect_changes s (Some meta) (Init text) is formed suited could same = absurd cc
 effect_changes s (Some meta) (Checkout version branch) is formed suited could same =
     not_longer s.workspaces (Some (untouched branch version) ∷ []) (omega arith) (ap (λ (x : State). x.workspaces) same)

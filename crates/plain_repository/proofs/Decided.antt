@@ -80,6 +80,7 @@ use Rattle.plain_repository.specs.Views.{decide_package, decide_log}
 use Rattle.plain_repository.specs.Repository.{block_text, decide_begun, decide_with, decide_command}
 use Rattle.plain_repository.specs.Events.{playable, playable_with, suits}
 use Rattle.plain_repository.specs.Orderly.{Orderly}
+use Rattle.command_facts.specs.Facts.{facts}
 use Rattle.plain_repository.specs.Laws.{HasMetamodel, IsThere, GivesNumbers, DecidedCouldBe}
 use Rattle.plain_repository.proofs.Encodings.{and_left, not_so}
 use Rattle.plain_repository.proofs.Following.{edit_follows, import_follows}
@@ -354,7 +355,7 @@ module _ (s : State) (meta : Meta) (has : HasMetamodel s meta) where
       by : (r : Result (List DocRow) ModelFault) → doc_of meta (block_text block) ≡ r → Could s (import_read s meta ws w r)
       by (Err fault) is = none refl
       by (Ok rows) is =
-          imported_could ws w there (block_text block) rows is (gives meta w rows has.begun there is) (recorded_import meta (model w) ws rows) refl
+          imported_could ws w there (block_text block) rows is (gives refl ws refl meta w rows has.begun there is) (recorded_import meta (model w) ws rows) refl
 
   -- ---- packages
   operations_could : (ws : ℕ) (w : Workspace) → workspace_of s ws ≡ Some w → (os : List Operation)
@@ -480,33 +481,8 @@ module _ (s : State) (begun_none : s.meta ≡ None) where
 
   before_could : (block : Option (List ℕ)) (command : Command) → Could s (decide_with s None block command)
   unfolding decide_init
-  before_could block commands.Init = init_could (block_text block) (metamodel_of (block_text block)) refl
-  before_could block commands.Evolve = none refl
-  before_could block (commands.Checkout spec) = none refl
-  before_could block (commands.Edit ws edit) = none refl
-  before_could block (commands.Import ws) = none refl
-  before_could block (commands.Load ws) = none refl
-  before_could block (commands.Begin ws name) = none refl
-  before_could block (commands.End ws) = none refl
-  before_could block (commands.Undo ws) = none refl
-  before_could block (commands.Discard ws) = none refl
-  before_could block (commands.Tidy ws) = none refl
-  before_could block (commands.Apply ws bytes) = none refl
-  before_could block (commands.Changes ws) = none refl
-  before_could block (commands.Show ws) = none refl
-  before_could block (commands.Cat spec) = none refl
-  before_could block (commands.Validate ws) = none refl
-  before_could block (commands.Commit ws message) = none refl
-  before_could block (commands.Signed ws author moment message) = none refl
-  before_could block (commands.Branch ws name) = none refl
-  before_could block (commands.Tag name spec) = none refl
-  before_could block commands.Log = none refl
-  before_could block (commands.Package spec) = none refl
-  before_could block (commands.Update ws choices) = none refl
-  before_could block (commands.Merge ws branch choices) = none refl
-  before_could block (commands.Revert ws version) = none refl
-  before_could block (commands.Drop ws) = none refl
-  before_could block commands.Upgrade = none refl
+  before_could block command =
+      if_only (facts command).begins (λ _. init_could (block_text block) (metamodel_of (block_text block)) refl) (none refl)
 
 pub decided_could_be : DecidedCouldBe
 unfolding decide_command

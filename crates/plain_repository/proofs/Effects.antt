@@ -75,7 +75,7 @@ edits_lead s meta ws os w c =
     )
 
 -- ---- workspaces that are made and dropped
-last_there : (ws : List (Option Workspace)) (w : Workspace) → there (slice_get (ws ++ Some w ∷ []) (length ws)) ≡ Some w
+pub last_there : (ws : List (Option Workspace)) (w : Workspace) → there (slice_get (ws ++ Some w ∷ []) (length ws)) ≡ Some w
 last_there [] w = refl
 last_there (o ∷ ws) w = last_there ws w
 
@@ -177,7 +177,7 @@ commits_keep_states s meta ws signature message w c =
     ∙ at_base meta (with_version s.history (version_of w signature message)) w n w.composite refl closed
     ∙ commits.commit_model s meta k ws w signature message c.there can
 
-moved : (s : State) (ws : ℕ) (name : List ℕ) (w : Workspace) → workspace_of s ws ≡ Some w
+pub moved : (s : State) (ws : ℕ) (name : List ℕ) (w : Workspace) → workspace_of s ws ≡ Some w
     → workspace_of (play s (Branch ws name)) ws ≡ Some (moved_onto (length s.history.branches) w)
 unfolding play
 moved s ws name w at =
@@ -185,7 +185,7 @@ moved s ws name w at =
     ∙ ap (λ (o : Option Workspace). of_number (with_new_branch ws name o s).workspaces ws) at
     ∙ same_number (moved_onto (length s.history.branches)) s.workspaces ws w (before s ws w at)
 
-branch_more : (s : State) (ws : ℕ) (name : List ℕ) (w : Workspace) → workspace_of s ws ≡ Some w
+pub branch_more : (s : State) (ws : ℕ) (name : List ℕ) (w : Workspace) → workspace_of s ws ≡ Some w
     → (play s (Branch ws name)).history ≡ with_branch s.history name w.base
 unfolding play
 branch_more s ws name w at = ap (λ (o : Option Workspace). (with_new_branch ws name o s).history) at

@@ -42,9 +42,12 @@ use Rattle.merge_laws.specs.Tidy.{is_tidy}
 use Rattle.merge_laws.specs.Choices.{are_choices}
 use Rattle.plain_repository.specs.Tidying.{tidied, can_tidy}
 use Rattle.plain_repository.specs.Merging.{update_buckets, updated, can_update, merge_buckets, merged_with, is_other_branch, has_theirs, can_merge}
-use Rattle.plain_repository.specs.Events.{by_meta, effect, meta_after, play, playable, playable_with, are_playable}
+use Rattle.plain_repository.specs.Changes.{Change, Begins, Extends, Upgrades, Opens, Drops, Within, Makes, Branches, Tags, applied, meta_with}
+use Rattle.plain_repository.specs.Changes.{first_text}
+use Rattle.plain_repository.specs.Events.{by_meta, change_of, effect, meta_after, play, playable, playable_with, are_playable}
 use Rattle.plain_repository.specs.Orderly.{RunsTo, Runs, steps_to, StandsInHistory, IsOrderlyWorkspace, HeadsLead, IfThere, Orderly, AllOrderly, IsOrderly}
 use Rattle.plain_repository.proofs.Encodings.{and_left, and_right, not_so, playable_is_event}
+use Rattle.plain_repository.proofs.Shapes.{is_first, is_later}
 use Rattle.plain_repository.proofs.Evolving.{grown_is, order_stays}
 use Rattle.plain_repository.proofs.Merged.{tidied_led, updated_led, merged_led}
 use Rattle.plain_repository.proofs.Names.{split_last, first_names, version_names, branch_names, tag_names}
@@ -448,56 +451,38 @@ event_kept meta s (Signed k author moment message) begun could spelled kept =
     commit_by meta s k (Some (record { author = author; moment = moment })) message (workspace_of s k) refl
     (and_right (is_name author) (can_commit s.history (workspace_of s k)) could) kept
 
-commit_meta : (s : State) (k : ℕ) (signature : Option Signature) (message : List ℕ) (o : Option Workspace) → (with_commit k signature message o s).meta ≡ s.meta
-commit_meta s k signature message None = refl
-commit_meta s k signature message (Some w) = refl
+-- which metamodel a change leaves, but for the first
+change_leaves_meta : (s : State) (meta : Meta) (c : Change) → s.meta ≡ Some meta → first_text c ≡ None → (applied c s).meta ≡ Some (meta_with c meta)
+change_leaves_meta s meta (Begins text) begun later = absurd cc
+change_leaves_meta s meta (Extends text) begun later = ap (option_map (grown text)) begun
+change_leaves_meta s meta Upgrades begun later = begun
+change_leaves_meta s meta (Opens version branch) begun later = begun
+change_leaves_meta s meta (Drops ws) begun later = begun
+change_leaves_meta s meta (Within ws change) begun later = begun
+change_leaves_meta s meta (Makes ws signature message) begun later = by (workspace_of s ws)
+  where
+    by : (o : Option Workspace) → (with_commit ws signature message o s).meta ≡ Some meta
+    by None = begun
+    by (Some w) = begun
+change_leaves_meta s meta (Branches ws name) begun later = by (workspace_of s ws)
+  where
+    by : (o : Option Workspace) → (with_new_branch ws name o s).meta ≡ Some meta
+    by None = begun
+    by (Some w) = begun
+change_leaves_meta s meta (Tags name version) begun later = begun
 
 -- which metamodel an event leaves
 pub meta_left : (s : State) (meta : Meta) (e : Event) → s.meta ≡ Some meta → IsTrue (playable_with s (Some meta) e)
     → (effect s e).meta ≡ Some (meta_after meta e)
-meta_left s meta (Init text) begun could = absurd cc
-meta_left s meta (Checkout version branch) begun could = begun
-meta_left s meta (Edit k operations) begun could = begun
-meta_left s meta (Begin k name) begun could = begun
-meta_left s meta (End k) begun could = begun
-meta_left s meta (Undo k) begun could = begun
-meta_left s meta (Discard k) begun could = begun
-meta_left s meta (Tidy k) begun could = begun
-meta_left s meta (Commit k message) begun could = commit_meta s k None message (workspace_of s k) ∙ begun
-meta_left s meta (Branch k name) begun could = by (workspace_of s k)
-  where
-    by : (o : Option Workspace) → (with_new_branch k name o s).meta ≡ Some meta
-    by None = begun
-    by (Some w) = begun
-meta_left s meta (Tag name version) begun could = begun
-meta_left s meta (Update k letters) begun could = begun
-meta_left s meta (Merge k branch letters) begun could = begun
-meta_left s meta (Drop k) begun could = begun
-meta_left s meta (Evolve text) begun could = ap (option_map (grown text)) begun
-meta_left s meta Upgrade begun could = begun
-meta_left s meta (Signed k author moment message) begun could =
-    commit_meta s k (Some (record { author = author; moment = moment })) message (workspace_of s k) ∙ begun
+meta_left s meta e begun could = change_leaves_meta s meta (change_of e) begun (is_later s meta e could)
 
 -- what could be made keeps all in order, with the metamodel that is there then
 pub effect_keeps : (s : State) (m : Option Meta) (e : Event) → s.meta ≡ m → IsTrue (playable_with s m e) → IsEvent e → AllOrderly m s
     → AllOrderly (effect s e).meta (effect s e)
-effect_keeps s None (Init text) is could spelled all = init_kept s text (metamodel_of text) refl could all.0
-effect_keeps s None (Checkout version branch) is could spelled all = absurd cc
-effect_keeps s None (Edit k operations) is could spelled all = absurd cc
-effect_keeps s None (Begin k name) is could spelled all = absurd cc
-effect_keeps s None (End k) is could spelled all = absurd cc
-effect_keeps s None (Undo k) is could spelled all = absurd cc
-effect_keeps s None (Discard k) is could spelled all = absurd cc
-effect_keeps s None (Tidy k) is could spelled all = absurd cc
-effect_keeps s None (Commit k message) is could spelled all = absurd cc
-effect_keeps s None (Branch k name) is could spelled all = absurd cc
-effect_keeps s None (Tag name version) is could spelled all = absurd cc
-effect_keeps s None (Update k letters) is could spelled all = absurd cc
-effect_keeps s None (Merge k branch letters) is could spelled all = absurd cc
-effect_keeps s None (Drop k) is could spelled all = absurd cc
-effect_keeps s None (Evolve text) is could spelled all = absurd cc
-effect_keeps s None Upgrade is could spelled all = absurd cc
-effect_keeps s None (Signed k author moment message) is could spelled all = absurd cc
+effect_keeps s None e is could spelled all =
+    let first = is_first (change_of e) could in
+    subst (λ (c : Change). AllOrderly (applied c s).meta (applied c s)) (sym first.is)
+    (init_kept s first.text (metamodel_of first.text) refl first.reads all.0)
 effect_keeps s (Some meta) e is could spelled all =
     subst (λ (m : Option Meta). AllOrderly m (effect s e)) (sym (meta_left s meta e is could)) (event_kept meta s e is could spelled all)
 

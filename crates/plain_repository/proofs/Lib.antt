@@ -1,4 +1,6 @@
+pub mod Answered
 pub mod Apart
+pub mod Asked
 pub mod Changing
 pub mod Commits
 pub mod DataLines
@@ -18,6 +20,9 @@ pub mod Merging
 pub mod Names
 pub mod Naming
 pub mod Numbers
+pub mod Once
+pub mod Others
+pub mod Pending
 pub mod Places
 pub mod Printed
 pub mod Reached
@@ -26,11 +31,14 @@ pub mod Refusals
 pub mod Reverting
 pub mod Rows
 pub mod Runs
+pub mod Shapes
 pub mod Shown
 pub mod Signing
 pub mod Spelled
+pub mod Standing
 pub mod States
 pub mod Stores
 pub mod Texts
 pub mod Typed
+pub mod Unasked
 pub mod Undoing

@@ -27,7 +27,8 @@ use Rattle.footprint.specs.declared.bucket.Bucket.{Bucket}
 use Rattle.footprint.proofs.Runs.{Leads, one_end, cut, join, packages_keep}
 use Rattle.merge_laws.proofs.Whole.{tidy_keeps_effect}
 use Rattle.merge_laws.specs.Merge.{merged}
-use Rattle.merge_laws.proofs.Merges.{update_gives_merged, merge_leads_to_merged}
+use Rattle.merge_laws.proofs.Merges.{update_gives_merged, mine_leads, merge_leads_to_merged}
+use Rattle.merge_laws.specs.ThreeWay.{TwoSides}
 use Rattle.merge_laws.specs.Choices.{is_choice, are_choices, side_of}
 use Rattle.merge_laws.specs.Plans.{theirs_of_update}
 use Rattle.op_form.specs.Formed.{IsStep}
@@ -130,6 +131,17 @@ module _ (meta : Meta) (sound : Sound meta) (h : History) (whole : IsWhole h) (r
         (theirs_of_update h w.branch w.base) w.operations (after_leads w.base (head h w.branch) at_head r.stands.on_path) (local_leads w closed r.runs)
         (map side_of letters) (sides_fit letters (update_buckets meta h w) fit)
 
+    pub update_sides : (letters : List ℕ) → are_choices letters (update_buckets meta h w) ≡ true
+        → TwoSides meta (state_of meta h w.base) (state_of meta h (head h w.branch)) (model_of meta h w) (theirs_of_update h w.branch w.base) w.operations
+        (map side_of letters)
+    update_sides letters fit = record {
+      sound = sound;
+      good = version_good w.base r.stands.base;
+      theirs_lead = after_leads w.base (head h w.branch) at_head r.stands.on_path;
+      mine_lead = local_leads w closed r.runs;
+      fit = sides_fit letters (update_buckets meta h w) fit;
+    }
+
     pub updated_led : (letters : List ℕ) (fit : are_choices letters (update_buckets meta h w) ≡ true)
         → Led (updated meta h letters w) (update_leads letters fit).0
     updated_led letters fit =
@@ -173,6 +185,21 @@ module _ (meta : Meta) (sound : Sound meta) (h : History) (whole : IsWhole h) (r
           (after_leads common start start_there common_on_start) (after_leads common w.base r.stands.base common_on_base)
           (local_leads w closed r.runs) (after_leads start other there start_on_other)
           (map side_of letters) (sides_fit letters (merge_buckets meta h w other) fit)
+
+      pub merge_sides : (letters : List ℕ) → are_choices letters (merge_buckets meta h w other) ≡ true
+          → TwoSides meta (state_of meta h start) (state_of meta h other) (model_of meta h w) (merge_theirs h w other) (merge_mine meta h w other)
+          (map side_of letters)
+      merge_sides letters fit = record {
+        sound = sound;
+        good = version_good start start_there;
+        theirs_lead = after_leads start other there start_on_other;
+        mine_lead =
+            mine_leads meta sound (state_of meta h common) (state_of meta h start) (state_of meta h w.base) (model_of meta h w)
+            (version_good common common_there) (operations_after h common start) (operations_after h common w.base) w.operations
+            (after_leads common start start_there common_on_start) (after_leads common w.base r.stands.base common_on_base)
+            (local_leads w closed r.runs);
+        fit = sides_fit letters (merge_buckets meta h w other) fit;
+      }
 
       mine_spelled : AreSpelled (merge_mine meta h w other)
       mine_spelled =

@@ -64,6 +64,7 @@ use Rattle.plain_repository.specs.Merging.{update_buckets, update_in, decide_upd
 use Rattle.plain_repository.specs.Views.{changes_in, decide_changes, show_in, decide_show, validate_in, decide_validate, cat_found, decide_cat, package_found}
 use Rattle.plain_repository.specs.Views.{decide_package, decide_log}
 use Rattle.plain_repository.specs.Repository.{block_text, decide_begun, decide_with, decide_command, decide_read, decide_line}
+use Rattle.command_facts.specs.Facts.{facts}
 use Rattle.plain_repository.specs.Laws.{NoneIfRefused, RefusalsMakeNone, is_validate, DataLinesAreApart}
 use Rattle.plain_repository.proofs.DataLines.{Apart, no_lines, changes_apart, package_apart, buckets_apart, text_apart, log_apart}
 
@@ -79,6 +80,10 @@ shows is all = record { refused_none = record { none = λ refuses. is }; apart =
 -- and without any
 silent : {d : Decision} → d.event ≡ None → d.reply.lines ≡ [] → Told false d
 silent is empty = shows is (subst (All Apart) (sym empty) no_lines)
+
+-- data lines that don't begin so
+of_told : (ids : Bool) {d : Decision} → Told false d → Told ids d
+of_told ids told = record { refused_none = told.refused_none; apart = λ plain. told.apart refl }
 
 -- one of two decisions
 either : (b : Bool) {x y : Decision} → Told false x → Told false y → Told false (if b then x else y)
@@ -329,33 +334,7 @@ module _ (s : State) where
 
   -- before there is a metamodel
   before_told : (block : Option (List ℕ)) (command : Command) → Told (is_validate command) (decide_with s None block command)
-  before_told block commands.Init = init_told None _
-  before_told block commands.Evolve = silent refl refl
-  before_told block (commands.Checkout spec) = silent refl refl
-  before_told block (commands.Edit ws edit) = silent refl refl
-  before_told block (commands.Import ws) = silent refl refl
-  before_told block (commands.Load ws) = silent refl refl
-  before_told block (commands.Begin ws name) = silent refl refl
-  before_told block (commands.End ws) = silent refl refl
-  before_told block (commands.Undo ws) = silent refl refl
-  before_told block (commands.Discard ws) = silent refl refl
-  before_told block (commands.Tidy ws) = silent refl refl
-  before_told block (commands.Apply ws bytes) = silent refl refl
-  before_told block (commands.Changes ws) = silent refl refl
-  before_told block (commands.Show ws) = silent refl refl
-  before_told block (commands.Cat spec) = silent refl refl
-  before_told block (commands.Validate ws) = record { refused_none = record { none = λ refuses. refl }; apart = λ plain. absurd cc }
-  before_told block (commands.Commit ws message) = silent refl refl
-  before_told block (commands.Signed ws author moment message) = silent refl refl
-  before_told block (commands.Branch ws name) = silent refl refl
-  before_told block (commands.Tag name spec) = silent refl refl
-  before_told block commands.Log = silent refl refl
-  before_told block (commands.Package spec) = silent refl refl
-  before_told block (commands.Update ws choices) = silent refl refl
-  before_told block (commands.Merge ws branch choices) = silent refl refl
-  before_told block (commands.Revert ws version) = silent refl refl
-  before_told block (commands.Drop ws) = silent refl refl
-  before_told block commands.Upgrade = silent refl refl
+  before_told block command = of_told (is_validate command) (either (facts command).begins (init_told None _) (silent refl refl))
 
   with_told : (m : Option Meta) (block : Option (List ℕ)) (command : Command) → Told (is_validate command) (decide_with s m block command)
   with_told None block command = before_told block command

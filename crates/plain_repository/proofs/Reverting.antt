@@ -202,7 +202,7 @@ more_model meta h more w n r leads (Some c) is =
 
 -- ---- the decision
 -- an event for which there is room is the one that was asked for
-room_event : (s : State) (lines : List (List ℕ)) (words : List ℕ) (event made : Event) → (with_room s lines words event).event ≡ Some made → event ≡ made
+pub room_event : (s : State) (lines : List (List ℕ)) (words : List ℕ) (event made : Event) → (with_room s lines words event).event ≡ Some made → event ≡ made
 unfolding with_room
 room_event s lines words event made = by (nat_le most_events s.events) (is_event event) (fit_of s.end (length (event_encoding event)))
   where

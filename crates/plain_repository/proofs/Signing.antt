@@ -7,53 +7,49 @@ use Rattle.std.proofs.lemmas.List.Elements.{All-append, All-from_recursion}
 use Rattle.command_runs.specs.Runs.{played}
 use Rattle.ecore_meta.specs.Meta.{Meta}
 use Rattle.history_tree.specs.declared.version.Version.{Version}
-use Rattle.history_tree.specs.History.{History, first_history, no_history}
+use Rattle.history_tree.specs.History.{History, first_history, no_history, with_version}
 use Rattle.op_form.specs.declared.event.Event.{Event}
-use Rattle.op_form.specs.declared.event.Event.TheVariants.{Init, Checkout, Edit, Begin, End, Undo, Discard, Tidy, Commit, Branch, Tag, Update, Merge}
-use Rattle.op_form.specs.declared.event.Event.TheVariants.{Drop, Evolve, Upgrade, Signed}
+use Rattle.op_form.specs.declared.event.Event.TheVariants.{Upgrade}
 use Rattle.plain_repository.specs.State.{State, Workspace, empty, workspace_of}
 use Rattle.plain_repository.specs.Answers.{most_events, fits_record}
 use Rattle.history_tree.specs.declared.version.Signature.{Signature}
 use Rattle.plain_repository.specs.Commits.{version_of, with_commit, with_new_branch}
-use Rattle.plain_repository.specs.Events.{effect, play, playable, playable_with, suits, are_playable}
+use Rattle.plain_repository.specs.Changes.{Change, Begins, Extends, Upgrades, Opens, Drops, Within, Makes, Branches, Tags, applied, first_text}
+use Rattle.plain_repository.specs.Changes.{Signing, Apart, Turns, Signs, signs, signing_of, suits_store, turns, comes_with_signatures}
+use Rattle.plain_repository.specs.Events.{change_of, effect, play, playable, playable_with, suits, are_playable}
 use Rattle.plain_repository.specs.Orderly.{AllOrderly, IsOrderly}
 use Rattle.plain_repository.specs.Laws.{IsSigned, IsUnsigned, AddsSuch, is_upgrade, UpgradesStay, NewVersionsAreSigned}
 use Rattle.plain_repository.specs.Laws.{SignedSinceUpgrade, is_of_signing, is_asked, are_asked, OldStoresReadOn}
 use Rattle.plain_repository.proofs.Encodings.{and_left, and_right, not_so, suiting}
 use Rattle.plain_repository.proofs.Kept.{empty_kept, play_keeps}
+use Rattle.plain_repository.proofs.Shapes.{IsFirst, by_history, is_first, is_later}
 
 -- ---- whether the store is upgraded
-commit_upgraded : (s : State) (k : ℕ) (signature : Option Signature) (message : List ℕ) (o : Option Workspace)
-    → (with_commit k signature message o s).upgraded ≡ s.upgraded
-commit_upgraded s k signature message None = refl
-commit_upgraded s k signature message (Some w) = refl
-
-branch_upgraded : (s : State) (k : ℕ) (name : List ℕ) (o : Option Workspace) → (with_new_branch k name o s).upgraded ≡ s.upgraded
-branch_upgraded s k name None = refl
-branch_upgraded s k name (Some w) = refl
-
-effect_upgraded : (s : State) (e : Event) → (effect s e).upgraded ≡ (is_upgrade e || s.upgraded)
-effect_upgraded s (Init text) = refl
-effect_upgraded s (Checkout version branch) = refl
-effect_upgraded s (Edit k operations) = refl
-effect_upgraded s (Begin k name) = refl
-effect_upgraded s (End k) = refl
-effect_upgraded s (Undo k) = refl
-effect_upgraded s (Discard k) = refl
-effect_upgraded s (Tidy k) = refl
-effect_upgraded s (Commit k message) = commit_upgraded s k None message (workspace_of s k)
-effect_upgraded s (Branch k name) = branch_upgraded s k name (workspace_of s k)
-effect_upgraded s (Tag name version) = refl
-effect_upgraded s (Update k letters) = refl
-effect_upgraded s (Merge k branch letters) = refl
-effect_upgraded s (Drop k) = refl
-effect_upgraded s (Evolve text) = refl
-effect_upgraded s Upgrade = refl
-effect_upgraded s (Signed k author moment message) = commit_upgraded s k (Some (record { author = author; moment = moment })) message (workspace_of s k)
+change_upgrades : (s : State) (c : Change) → (applied c s).upgraded ≡ (turns (signing_of c) || s.upgraded)
+change_upgrades s (Begins text) = refl
+change_upgrades s (Extends text) = refl
+change_upgrades s Upgrades = refl
+change_upgrades s (Opens version branch) = refl
+change_upgrades s (Drops ws) = refl
+change_upgrades s (Within ws change) = refl
+change_upgrades s (Makes ws signature message) = by (workspace_of s ws) signature
+  where
+    by : (o : Option Workspace) (signature : Option Signature)
+        → (with_commit ws signature message o s).upgraded ≡ (turns (signs signature) || s.upgraded)
+    by None None = refl
+    by None (Some x) = refl
+    by (Some w) None = refl
+    by (Some w) (Some x) = refl
+change_upgrades s (Branches ws name) = by (workspace_of s ws)
+  where
+    by : (o : Option Workspace) → (with_new_branch ws name o s).upgraded ≡ s.upgraded
+    by None = refl
+    by (Some w) = refl
+change_upgrades s (Tags name version) = refl
 
 pub upgrades_stay : UpgradesStay
 unfolding play
-upgrades_stay s e = effect_upgraded s e
+upgrades_stay s e = change_upgrades s (change_of e)
 
 or_left_false : (a b : Bool) → a || b ≡ false → b ≡ false
 or_left_false true b e = absurd cc
@@ -83,66 +79,23 @@ module _ {Such : Version → Type 0} where
     such = All-append Such first.more second.more first.such second.such;
   }
 
-  commit_adds : (s : State) (k : ℕ) (signature : Option Signature) (message : List ℕ) → ((w : Workspace) → Such (version_of w signature message))
-      → (o : Option Workspace) → AddsSuch Such s.history (with_commit k signature message o s).history
-  commit_adds s k signature message such None = adds_none s.history
-  commit_adds s k signature message such (Some w) = record {
-    more = version_of w signature message ∷ [];
-    is = refl;
-    such = All-from_recursion Such (version_of w signature message ∷ []) (such w, tt);
-  }
+  adds_one : (h : History) (version : Version) → Such version → AddsSuch Such h (with_version h version)
+  adds_one h version such = record { more = version ∷ []; is = refl; such = All-from_recursion Such (version ∷ []) (such, tt) }
 
-  branch_adds : (s : State) (k : ℕ) (name : List ℕ) (o : Option Workspace) → AddsSuch Such s.history (with_new_branch k name o s).history
-  branch_adds s k name None = adds_none s.history
-  branch_adds s k name (Some w) = record { more = []; is = sym (append-nil s.history.versions); such = All-from_recursion Such [] tt }
+  -- but for the first
+  change_adds : (s : State) (c : Change) → first_text c ≡ None
+      → ((ws : ℕ) (signature : Option Signature) (message : List ℕ) → c ≡ Makes ws signature message → (w : Workspace) → Such (version_of w signature message))
+      → AddsSuch Such s.history (applied c s).history
+  change_adds s c later such =
+      by_history s (AddsSuch Such s.history) (adds_none s.history)
+      (λ name start. record { more = []; is = sym (append-nil s.history.versions); such = All-from_recursion Such [] tt })
+      (λ name version. record { more = []; is = sym (append-nil s.history.versions); such = All-from_recursion Such [] tt }) c later
+      (λ ws signature message is w. adds_one s.history (version_of w signature message) (such ws signature message is w))
 
-  -- where there is a metamodel
-  effect_adds : (s : State) (meta : Meta) (e : Event) → IsTrue (playable_with s (Some meta) e)
-      → ((k : ℕ) (message : List ℕ) → e ≡ Commit k message → (w : Workspace) → Such (version_of w None message))
-      → ((k : ℕ) (author : List ℕ) (moment : ℕ) (message : List ℕ) → e ≡ Signed k author moment message → (w : Workspace)
-      → Such (version_of w (Some (record { author = author; moment = moment })) message))
-      → AddsSuch Such s.history (effect s e).history
-  effect_adds s meta (Init text) could plain signed = absurd cc
-  effect_adds s meta (Checkout version branch) could plain signed = adds_none s.history
-  effect_adds s meta (Edit k operations) could plain signed = adds_none s.history
-  effect_adds s meta (Begin k name) could plain signed = adds_none s.history
-  effect_adds s meta (End k) could plain signed = adds_none s.history
-  effect_adds s meta (Undo k) could plain signed = adds_none s.history
-  effect_adds s meta (Discard k) could plain signed = adds_none s.history
-  effect_adds s meta (Tidy k) could plain signed = adds_none s.history
-  effect_adds s meta (Commit k message) could plain signed = commit_adds s k None message (plain k message refl) (workspace_of s k)
-  effect_adds s meta (Branch k name) could plain signed = branch_adds s k name (workspace_of s k)
-  effect_adds s meta (Tag name version) could plain signed =
-      record { more = []; is = sym (append-nil s.history.versions); such = All-from_recursion Such [] tt }
-  effect_adds s meta (Update k letters) could plain signed = adds_none s.history
-  effect_adds s meta (Merge k branch letters) could plain signed = adds_none s.history
-  effect_adds s meta (Drop k) could plain signed = adds_none s.history
-  effect_adds s meta (Evolve text) could plain signed = adds_none s.history
-  effect_adds s meta Upgrade could plain signed = adds_none s.history
-  effect_adds s meta (Signed k author moment message) could plain signed =
-      commit_adds s k (Some (record { author = author; moment = moment })) message (signed k author moment message refl) (workspace_of s k)
-
-  -- before there is one, Init alone adds a version: the first
-  first_adds : (s : State) (e : Event) → s.history ≡ no_history → IsTrue (playable_with s None e) → All Such first_history.versions
-      → AddsSuch Such s.history (effect s e).history
-  first_adds s (Init text) none could such =
-      record { more = first_history.versions; is = ap (λ (h : History). h.versions ++ first_history.versions) (sym none); such = such }
-  first_adds s (Checkout version branch) none could such = absurd cc
-  first_adds s (Edit k operations) none could such = absurd cc
-  first_adds s (Begin k name) none could such = absurd cc
-  first_adds s (End k) none could such = absurd cc
-  first_adds s (Undo k) none could such = absurd cc
-  first_adds s (Discard k) none could such = absurd cc
-  first_adds s (Tidy k) none could such = absurd cc
-  first_adds s (Commit k message) none could such = absurd cc
-  first_adds s (Branch k name) none could such = absurd cc
-  first_adds s (Tag name version) none could such = absurd cc
-  first_adds s (Update k letters) none could such = absurd cc
-  first_adds s (Merge k branch letters) none could such = absurd cc
-  first_adds s (Drop k) none could such = absurd cc
-  first_adds s (Evolve text) none could such = absurd cc
-  first_adds s Upgrade none could such = absurd cc
-  first_adds s (Signed k author moment message) none could such = absurd cc
+  -- the first adds the first version
+  first_adds : (s : State) (c : Change) → s.history ≡ no_history → IsFirst c → All Such first_history.versions → AddsSuch Such s.history (applied c s).history
+  first_adds s c none first such = subst (λ (c : Change). AddsSuch Such s.history (applied c s).history) (sym first.is)
+      (record { more = first_history.versions; is = ap (λ (h : History). h.versions ++ first_history.versions) (sym none); such = such })
 
 first_unsigned : All IsUnsigned first_history.versions
 first_unsigned = All-from_recursion IsUnsigned first_history.versions ((refl, refl), tt)
@@ -151,30 +104,32 @@ not_both : (b : Bool) → b ≡ true → b ≡ false → ⊥
 not_both true first second = cc
 not_both false first second = cc
 
--- an unsigned version suits no store that is upgraded, and a signed one no other
-no_commit : (s : State) (e : Event) (k : ℕ) (message : List ℕ) → s.upgraded ≡ true → IsTrue (suits s.upgraded e) → e ≡ Commit k message → ⊥
-no_commit s e k message is suited same = not_both s.upgraded is (not_so s.upgraded (subst (λ (e : Event). IsTrue (suits s.upgraded e)) same suited))
-
-no_signed : (s : State) (e : Event) (k : ℕ) (author : List ℕ) (moment : ℕ) (message : List ℕ) → s.upgraded ≡ false → IsTrue (suits s.upgraded e)
-    → e ≡ Signed k author moment message → ⊥
-no_signed s e k author moment message is suited same = not_both s.upgraded (subst (λ (e : Event). IsTrue (suits s.upgraded e)) same suited) is
+-- what the versions of an event are, by whether it suits the store
+by_store : (b : Bool) (signature : Option Signature) (w : Workspace) (message : List ℕ) → IsTrue (suits_store b (signs signature))
+    → (b ≡ true → IsSigned (version_of w signature message)) × (b ≡ false → IsUnsigned (version_of w signature message))
+by_store b (Some x) w message suited = (λ is. (refl, refl), λ is. absurd (not_both b suited is))
+by_store b None w message suited = (λ is. absurd (not_both b is (not_so b suited)), λ is. (refl, refl))
 
 module _ (s : State) (e : Event) (could : IsTrue (playable s e)) where
   asked_of : IsTrue (playable_with s s.meta e)
   unfolding playable
   asked_of = and_right _ (playable_with s s.meta e) could
 
+  made : (ws : ℕ) (signature : Option Signature) (message : List ℕ) → change_of e ≡ Makes ws signature message
+      → IsTrue (suits_store s.upgraded (signs signature))
+  made ws signature message is = subst (λ (c : Change). IsTrue (suits_store s.upgraded (signing_of c))) is (suiting s e could)
+
   signed_in : (m : Option Meta) → AllOrderly m s → IsTrue (playable_with s m e) → s.upgraded ≡ true → AddsSuch IsSigned s.history (effect s e).history
   signed_in None order asked is = absurd (not_both s.upgraded is order.2)
   signed_in (Some meta) order asked is =
-      effect_adds s meta e asked (λ k message same. absurd (no_commit s e k message is (suiting s e could) same))
-      (λ k author moment message same w. (refl, refl))
+      change_adds s (change_of e) (is_later s meta e asked)
+      (λ ws signature message same w. (by_store s.upgraded signature w message (made ws signature message same)).0 is)
 
   unsigned_in : (m : Option Meta) → AllOrderly m s → IsTrue (playable_with s m e) → s.upgraded ≡ false → AddsSuch IsUnsigned s.history (effect s e).history
-  unsigned_in None order asked is = first_adds s e order.1 asked first_unsigned
+  unsigned_in None order asked is = first_adds s (change_of e) order.1 (is_first (change_of e) asked) first_unsigned
   unsigned_in (Some meta) order asked is =
-      effect_adds s meta e asked (λ k message same w. (refl, refl))
-      (λ k author moment message same. absurd (no_signed s e k author moment message is (suiting s e could) same))
+      change_adds s (change_of e) (is_later s meta e asked)
+      (λ ws signature message same w. (by_store s.upgraded signature w message (made ws signature message same)).1 is)
 
   pub adds_signed : IsOrderly s → s.upgraded ≡ true → AddsSuch IsSigned s.history (play s e).history
   unfolding play
@@ -266,43 +221,16 @@ signed_since_upgrade before after could =
 
 -- ---- old stores
 -- an event without signatures suits a store that is not upgraded, and leaves it so
-old_suits : (e : Event) → is_of_signing e ≡ false → suits false e ≡ true
-old_suits (Init text) old = refl
-old_suits (Checkout version branch) old = refl
-old_suits (Edit k operations) old = refl
-old_suits (Begin k name) old = refl
-old_suits (End k) old = refl
-old_suits (Undo k) old = refl
-old_suits (Discard k) old = refl
-old_suits (Tidy k) old = refl
-old_suits (Commit k message) old = refl
-old_suits (Branch k name) old = refl
-old_suits (Tag name version) old = refl
-old_suits (Update k letters) old = refl
-old_suits (Merge k branch letters) old = refl
-old_suits (Drop k) old = refl
-old_suits (Evolve text) old = refl
-old_suits Upgrade old = absurd cc
-old_suits (Signed k author moment message) old = absurd cc
+old_suits : (x : Signing) → comes_with_signatures x ≡ false → suits_store false x ≡ true
+old_suits Apart old = refl
+old_suits Turns old = absurd cc
+old_suits (Signs true) old = absurd cc
+old_suits (Signs false) old = refl
 
-old_is_no_upgrade : (e : Event) → is_of_signing e ≡ false → is_upgrade e ≡ false
-old_is_no_upgrade (Init text) old = refl
-old_is_no_upgrade (Checkout version branch) old = refl
-old_is_no_upgrade (Edit k operations) old = refl
-old_is_no_upgrade (Begin k name) old = refl
-old_is_no_upgrade (End k) old = refl
-old_is_no_upgrade (Undo k) old = refl
-old_is_no_upgrade (Discard k) old = refl
-old_is_no_upgrade (Tidy k) old = refl
-old_is_no_upgrade (Commit k message) old = refl
-old_is_no_upgrade (Branch k name) old = refl
-old_is_no_upgrade (Tag name version) old = refl
-old_is_no_upgrade (Update k letters) old = refl
-old_is_no_upgrade (Merge k branch letters) old = refl
-old_is_no_upgrade (Drop k) old = refl
-old_is_no_upgrade (Evolve text) old = refl
-old_is_no_upgrade Upgrade old = absurd cc
-old_is_no_upgrade (Signed k author moment message) old = refl
+old_is_no_upgrade : (x : Signing) → comes_with_signatures x ≡ false → turns x ≡ false
+old_is_no_upgrade Apart old = refl
+old_is_no_upgrade Turns old = absurd cc
+old_is_no_upgrade (Signs signed) old = refl
 
 with_true : (a b c : Bool) → b ≡ true → (a && b && c) ≡ (a && c)
 with_true true true c is = refl
@@ -312,10 +240,11 @@ with_true a false c is = absurd cc
 could_is_asked : (s : State) (e : Event) → s.upgraded ≡ false → is_of_signing e ≡ false → playable s e ≡ is_asked s e
 unfolding playable
 could_is_asked s e is old =
-    with_true (nat_lt s.events most_events && fits_record e) (suits s.upgraded e) (playable_with s s.meta e) (ap (λ b. suits b e) is ∙ old_suits e old)
+    with_true (nat_lt s.events most_events && fits_record e) (suits s.upgraded e) (playable_with s s.meta e)
+    (ap (λ b. suits b e) is ∙ old_suits (signing_of (change_of e)) old)
 
 stays_old : (s : State) (e : Event) → s.upgraded ≡ false → is_of_signing e ≡ false → (play s e).upgraded ≡ false
-stays_old s e is old = upgrades_stay s e ∙ (λ i. old_is_no_upgrade e old i || is i)
+stays_old s e is old = upgrades_stay s e ∙ (λ i. old_is_no_upgrade (signing_of (change_of e)) old i || is i)
 
 neither : (a b : Bool) → a || b ≡ false → (a ≡ false) × (b ≡ false)
 neither true b e = absurd cc

@@ -10,12 +10,13 @@ use Rattle.op_form.specs.declared.event.Event.{Event}
 use Rattle.plain_repository.specs.State.{State, untouched}
 use Rattle.plain_repository.specs.Metamodels.{grown}
 use Rattle.plain_repository.specs.Orderly.{Orderly}
-use Rattle.plain_repository.specs.Events.{effect, meta_after, play, playable_with}
+use Rattle.plain_repository.specs.Events.{change_of, effect, meta_after, play, playable_with}
 use Rattle.plain_repository.specs.Laws.{StatesStay}
 use Rattle.plain_repository.proofs.Apart.{effect_leaves, asked, meta_now}
 use Rattle.plain_repository.proofs.Evolving.{grown_is, version_stays, by_growth}
 use Rattle.plain_repository.proofs.Growth as growth
 use Rattle.plain_repository.proofs.Reached.{kept}
+use Rattle.plain_repository.proofs.Shapes.{is_later}
 
 -- the operations up to it stay, and so does what they lead to, with the metamodel that is there then
 pub effect_state_stays : (meta : Meta) (s : State) → Orderly meta s → (e : Event) → IsTrue (playable_with s (Some meta) e) → (v : ℕ)
@@ -33,7 +34,7 @@ effect_state_stays meta s order e could v within = by_growth meta
 pub effect_versions_stay : (meta : Meta) (s : State) (e : Event) → IsTrue (playable_with s (Some meta) e) → (v : ℕ) → v < length s.history.versions
     → v < length (effect s e).history.versions
 effect_versions_stay meta s e could v within =
-    let more = (growth.grown s meta e could).versions in
+    let more = (growth.grown s (change_of e) (is_later s meta e could)).versions in
     let longer = ap length more.1 ∙ length-append s.history.versions more.0 in
     omega (arith, within, longer)
 

@@ -5,7 +5,11 @@ use Rattle.std.specs.Prelude.{IsTrue, unwrap_or}
 use Rattle.std.proofs.lemmas.Bool.{ltb-true, ltb-false}
 use Rattle.std.proofs.lemmas.Option.{slice_get_past}
 use Rattle.ecore_meta.specs.Meta.{Meta}
+use Rattle.ecore_json.proofs.ReadHolds.{read_holds}
+use Rattle.metamodel_growth.specs.Evolved.{evolved}
+use Rattle.metamodel_growth.specs.EvolvedLaws.{HaveSameParts}
 use Rattle.metamodel_growth.specs.Preserves.{Preserves}
+use Rattle.metamodel_growth.proofs.EvolvedLaws.{evolved_has_the_new}
 use Rattle.model_texts.specs.Tree.{text}
 use Rattle.growth_laws.specs.Growth.{Evolves}
 use Rattle.growth_laws.proofs.Texts.{growth_keeps_text}
@@ -27,9 +31,9 @@ use Rattle.plain_repository.specs.Specs.{found_by_spec}
 use Rattle.plain_repository.specs.Views.{show_in, cat_found, decide_show, decide_cat}
 use Rattle.plain_repository.specs.Events.{meta_after, play, playable}
 use Rattle.plain_repository.specs.Repository.{decide_with, decide_command}
-use Rattle.plain_repository.specs.Laws.{HasMetamodel, IsThere, TextsStay, MetamodelsGrow}
+use Rattle.plain_repository.specs.Laws.{HasMetamodel, IsThere, TextsStay, MetamodelsGrow, DocumentsBecome}
 use Rattle.plain_repository.proofs.Apart.{asked, meta_now}
-use Rattle.plain_repository.proofs.Evolving.{grown_is, model_stays, version_stays, by_growth}
+use Rattle.plain_repository.proofs.Evolving.{extension, grown_is, model_stays, version_stays, by_growth}
 use Rattle.plain_repository.proofs.Kept.{meta_left}
 use Rattle.plain_repository.proofs.Listed.{changes_stay, packages_stay}
 use Rattle.plain_repository.proofs.Reached.{in_order, kept, models_are_good, versions_are_good}
@@ -115,6 +119,16 @@ texts_stay s meta has text could =
       changes = λ block more ws. changes_stay s meta (grown text meta) has grew (play s (Evolve text)) is (same_workspaces s text) block more ws;
       packages = λ block more spec. packages_stay s meta (grown text meta) has grew (play s (Evolve text)) is refl block more spec;
     }
+
+pub documents_become : DocumentsBecome
+documents_become s meta now has text could is =
+    let x = extension meta text (asked s meta (Evolve text) has.begun could) in
+    let is_now : now ≡ evolved meta x.next = meta_now s meta now (Evolve text) has.begun could is ∙ x.is in (
+      x.next,
+      x.read,
+      subst (HaveSameParts x.next) (sym is_now)
+          (evolved_has_the_new meta x.next (kept s meta has).metamodel (read_holds text x.next x.read)),
+    )
 
 pub metamodels_grow : MetamodelsGrow
 metamodels_grow s meta now has e could is =

@@ -5,6 +5,8 @@ use Rattle.std.specs.List.{list_any}
 use Rattle.command_runs.specs.Runs.{played}
 use Rattle.ecore_meta.specs.Meta.{Meta}
 use Rattle.ecore_meta.specs.Promised.{IsMetamodel}
+use Rattle.ecore_json.specs.Metamodel.{metamodel_of}
+use Rattle.metamodel_growth.specs.EvolvedLaws.{HaveSameParts}
 use Rattle.metamodel_growth.specs.Preserves.{Preserves}
 use Rattle.model_state.specs.Ident.{is_id}
 use Rattle.model_state.specs.Keys.{IdBytes}
@@ -23,8 +25,7 @@ use Rattle.history_tree.specs.Found.{branch_named, tag_named}
 use Rattle.history_tree.specs.States.{state_folded, state_of}
 use Rattle.history_tree.specs.Whole.{IsWhole}
 use Rattle.op_form.specs.declared.event.Event.{Event}
-use Rattle.op_form.specs.declared.event.Event.TheVariants.{Init, Checkout, Edit, Begin, End, Undo, Discard, Tidy, Commit}
-use Rattle.op_form.specs.declared.event.Event.TheVariants.{Branch as MadeBranch, Tag as MadeTag, Update, Merge, Drop, Evolve, Upgrade, Signed}
+use Rattle.op_form.specs.declared.event.Event.TheVariants.{Init, Checkout, Edit, Undo, Tag as MadeTag, Evolve, Upgrade}
 use Rattle.script_lang.specs.declared.command.Spec.{Spec}
 use Rattle.script_lang.specs.declared.command.Command.{Command}
 use Rattle.script_lang.specs.declared.command.Command.TheVariants as commands
@@ -33,13 +34,15 @@ use Rattle.script_lang.specs.declared.reply.Last.{Last}
 use Rattle.script_lang.specs.declared.reply.Last.TheVariants as last
 use Rattle.script_lang.specs.Reply.{last_line}
 use Rattle.script_lang.specs.Spelling.{IsCommand}
+use Rattle.command_facts.specs.Facts.{facts}
 use Rattle.finite_maps.specs.Equal.{text_eq}
 use Rattle.plain_repository.specs.State.{State, Workspace, empty, workspace_of, folded, model_of}
 use Rattle.plain_repository.specs.Orderly.{IsOrderly, StandsInHistory}
 use Rattle.plain_repository.specs.Answers.{Decision, fits_record, is_refusal, most_events}
 use Rattle.history_tree.specs.declared.version.Signature.{Signature}
 use Rattle.plain_repository.specs.Commits.{version_event}
-use Rattle.plain_repository.specs.Events.{effect, play, playable, playable_with, are_playable, is_of}
+use Rattle.plain_repository.specs.Changes.{signing_of, turns, comes_with_signatures}
+use Rattle.plain_repository.specs.Events.{change_of, effect, play, playable, playable_with, are_playable, is_of}
 use Rattle.plain_repository.specs.Repository.{block_text, decide_command, decide_line}
 
 -- events that could be made lead to the state
@@ -216,6 +219,12 @@ abbrev pub MetamodelsGrow : Type 0
 MetamodelsGrow = (s : State) (meta now : Meta) → HasMetamodel s meta → (event : Event) → IsTrue (playable s event) → (play s event).meta ≡ Some now
     → (now ≡ meta) ⊎ Preserves meta now
 
+-- an Evolve brings the metamodel of its text: neither lacks a part, by name, that the other has
+abbrev pub DocumentsBecome : Type 0
+DocumentsBecome = (s : State) (meta now : Meta) → HasMetamodel s meta → (text : List ℕ) → IsTrue (playable s (Evolve text))
+    → (play s (Evolve text)).meta ≡ Some now
+    → (next : Meta) × (metamodel_of text ≡ Ok next) × HaveSameParts next now
+
 -- no event takes a place of the list of workspaces away, so each checkout makes a new number
 abbrev pub NumbersOnlyGrow : Type 0
 NumbersOnlyGrow = (s : State) (event : Event) → length s.workspaces ≤ length (play s event).workspaces
@@ -234,37 +243,13 @@ pub record NoneIfRefused (decision : Decision) : Type 0 where
 abbrev pub RefusalsMakeNone : Type 0
 RefusalsMakeNone = (s : State) (line : List ℕ) (block : Option (List ℕ)) → NoneIfRefused (decide_line s line block)
 
--- the ids that an import gives to the elements of its block are the first that are free, and have numbers below 2^64 - 1
+-- The ids that are given to the elements of the block, where the command gives them any, are the first that are free, and have
+-- numbers below 2^64 - 1.
 abbrev pub GivesNumbers : State → Option (List ℕ) → Command → Type 0
-GivesNumbers s block (commands.Import ws) = (meta : Meta) (w : Workspace) (rows : List DocRow) → s.meta ≡ Some meta → workspace_of s ws ≡ Some w
+GivesNumbers s block command = IsTrue (facts command).gives_ids → (ws : ℕ) → (facts command).workspace ≡ Some ws
+    → (meta : Meta) (w : Workspace) (rows : List DocRow) → s.meta ≡ Some meta → workspace_of s ws ≡ Some w
     → doc_of meta (block_text block) ≡ Ok rows
     → let m = model_of meta s.history w in AreNames m rows ws 1 rows (names_of m ws rows)
-GivesNumbers s block commands.Init = Unit {0}
-GivesNumbers s block commands.Evolve = Unit {0}
-GivesNumbers s block (commands.Load ws) = Unit {0}
-GivesNumbers s block (commands.Checkout spec) = Unit {0}
-GivesNumbers s block (commands.Edit ws edit) = Unit {0}
-GivesNumbers s block (commands.Begin ws name) = Unit {0}
-GivesNumbers s block (commands.End ws) = Unit {0}
-GivesNumbers s block (commands.Undo ws) = Unit {0}
-GivesNumbers s block (commands.Discard ws) = Unit {0}
-GivesNumbers s block (commands.Tidy ws) = Unit {0}
-GivesNumbers s block (commands.Apply ws bytes) = Unit {0}
-GivesNumbers s block (commands.Changes ws) = Unit {0}
-GivesNumbers s block (commands.Show ws) = Unit {0}
-GivesNumbers s block (commands.Cat spec) = Unit {0}
-GivesNumbers s block (commands.Validate ws) = Unit {0}
-GivesNumbers s block (commands.Commit ws message) = Unit {0}
-GivesNumbers s block (commands.Signed ws author moment message) = Unit {0}
-GivesNumbers s block (commands.Branch ws name) = Unit {0}
-GivesNumbers s block (commands.Tag name spec) = Unit {0}
-GivesNumbers s block commands.Log = Unit {0}
-GivesNumbers s block (commands.Package spec) = Unit {0}
-GivesNumbers s block (commands.Update ws choices) = Unit {0}
-GivesNumbers s block (commands.Merge ws branch choices) = Unit {0}
-GivesNumbers s block (commands.Revert ws version) = Unit {0}
-GivesNumbers s block (commands.Drop ws) = Unit {0}
-GivesNumbers s block commands.Upgrade = Unit {0}
 
 -- a command that a line can spell is answered with an event
 pub record MakesEvent (s : State) (block : Option (List ℕ)) (command : Command) (event : Event) : Type 0 where
@@ -287,33 +272,7 @@ LastLinesLook = (last : Last) → looks_last (last_line last) ≡ true
 
 -- the command is `validate`, whose data lines begin with ids
 abbrev pub is_validate : Command → Bool
-is_validate (commands.Validate ws) = true
-is_validate commands.Init = false
-is_validate commands.Evolve = false
-is_validate (commands.Import ws) = false
-is_validate (commands.Load ws) = false
-is_validate (commands.Checkout spec) = false
-is_validate (commands.Edit ws edit) = false
-is_validate (commands.Begin ws name) = false
-is_validate (commands.End ws) = false
-is_validate (commands.Undo ws) = false
-is_validate (commands.Discard ws) = false
-is_validate (commands.Tidy ws) = false
-is_validate (commands.Apply ws bytes) = false
-is_validate (commands.Changes ws) = false
-is_validate (commands.Show ws) = false
-is_validate (commands.Cat spec) = false
-is_validate (commands.Commit ws message) = false
-is_validate (commands.Signed ws author moment message) = false
-is_validate (commands.Branch ws name) = false
-is_validate (commands.Tag name spec) = false
-is_validate commands.Log = false
-is_validate (commands.Package spec) = false
-is_validate (commands.Update ws choices) = false
-is_validate (commands.Merge ws branch choices) = false
-is_validate (commands.Revert ws version) = false
-is_validate (commands.Drop ws) = false
-is_validate commands.Upgrade = false
+is_validate command = (facts command).lists_ids
 
 -- no data line looks so but those of `validate`
 abbrev pub DataLinesAreApart : Type 0
@@ -385,25 +344,9 @@ pub record AddsSuch (Such : Version → Type 0) (before after : History) : Type 
   pub is : after.versions ≡ before.versions ++ more
   pub such : All Such more
 
--- is the event Upgrade
+-- does the event upgrade the store: is it Upgrade
 abbrev pub is_upgrade : Event → Bool
-is_upgrade (Init text) = false
-is_upgrade (Checkout version branch) = false
-is_upgrade (Edit ws operations) = false
-is_upgrade (Begin ws name) = false
-is_upgrade (End ws) = false
-is_upgrade (Undo ws) = false
-is_upgrade (Discard ws) = false
-is_upgrade (Tidy ws) = false
-is_upgrade (Commit ws message) = false
-is_upgrade (MadeBranch ws name) = false
-is_upgrade (MadeTag name version) = false
-is_upgrade (Update ws letters) = false
-is_upgrade (Merge ws branch letters) = false
-is_upgrade (Drop ws) = false
-is_upgrade (Evolve text) = false
-is_upgrade Upgrade = true
-is_upgrade (Signed ws author moment message) = false
+is_upgrade event = turns (signing_of (change_of event))
 
 -- a store that is upgraded stays so, and no other event upgrades one
 abbrev pub UpgradesStay : Type 0
@@ -424,25 +367,9 @@ pub record AreSignedSince (before after : List Event) : Type 0 where
 abbrev pub SignedSinceUpgrade : Type 0
 SignedSinceUpgrade = (before after : List Event) → IsTrue (are_playable empty (before ++ Upgrade ∷ after)) → AreSignedSince before after
 
--- is the event one that came with signatures
+-- is the event one that came with signatures: Upgrade or Signed
 abbrev pub is_of_signing : Event → Bool
-is_of_signing (Init text) = false
-is_of_signing (Checkout version branch) = false
-is_of_signing (Edit ws operations) = false
-is_of_signing (Begin ws name) = false
-is_of_signing (End ws) = false
-is_of_signing (Undo ws) = false
-is_of_signing (Discard ws) = false
-is_of_signing (Tidy ws) = false
-is_of_signing (Commit ws message) = false
-is_of_signing (MadeBranch ws name) = false
-is_of_signing (MadeTag name version) = false
-is_of_signing (Update ws letters) = false
-is_of_signing (Merge ws branch letters) = false
-is_of_signing (Drop ws) = false
-is_of_signing (Evolve text) = false
-is_of_signing Upgrade = true
-is_of_signing (Signed ws author moment message) = true
+is_of_signing event = comes_with_signatures (signing_of (change_of event))
 
 -- what is asked of an event beside that it suits the store
 abbrev pub is_asked : State → Event → Bool

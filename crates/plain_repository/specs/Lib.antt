@@ -1,5 +1,7 @@
 pub mod Answers
 pub mod Applying
+pub mod Changes
+pub mod Asked
 pub mod Checkouts
 pub mod Choices
 pub mod Commits
@@ -16,6 +18,7 @@ pub mod Metamodels
 pub mod Orderly
 pub mod Repository
 pub mod Specs
+pub mod Standing
 pub mod State
 pub mod Store
 pub mod Tidying

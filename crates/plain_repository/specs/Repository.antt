@@ -9,6 +9,7 @@ use Rattle.script_lang.specs.declared.command.Command.TheVariants as commands
 use Rattle.script_lang.specs.declared.reply.Refusal.TheVariants as refusals
 use Rattle.script_lang.specs.Command.{command_of}
 use Rattle.script_lang.specs.Reply.{printed}
+use Rattle.command_facts.specs.Facts.{facts}
 use Rattle.plain_repository.specs.Lines.{is_skipped}
 use Rattle.plain_repository.specs.State.{State}
 use Rattle.plain_repository.specs.Answers.{Decision, refused, is_refusal}
@@ -61,8 +62,7 @@ decide_begun s meta block commands.Upgrade = decide_upgrade s
 -- before there is a metamodel, `init` alone is answered otherwise than so
 abbrev pub decide_with : State → Option Meta → Option (List ℕ) → Command → Decision
 decide_with s (Some meta) block command = decide_begun s meta block command
-decide_with s None block commands.Init = decide_init s None (block_text block)
-decide_with s None block command = refused refusals.NotInit
+decide_with s None block command = if (facts command).begins then decide_init s None (block_text block) else refused refusals.NotInit
 
 -- a command on a state
 unfoldable pub decide_command : State → Option (List ℕ) → Command → Decision

@@ -1,9 +1,11 @@
 //! The laws of the plain repository: each is a function without a body, whose contract is the law.
 ghost use Rattle.model_state.specs.Good.{Good};
 ghost use Rattle.state_form.specs.Spelled.{IsSpelled};
-ghost use Rattle.plain_repository.specs.Laws.{StartsInOrder, StaysInOrder, AllIsInOrder, OfModels, OfVersions, HasIds, ModelsAreDefined, VersionsAreDefined, MetamodelsHold, HistoriesAreWhole, WorkspacesStand, HistoryOnlyGrows, StatesStay, BranchesAreNamed, TagsAreNamed, TagNamesDiffer, EventsAreOfOne, SomeAreOfNone, WorkspacesStayApart, ModelsStayApart, NumbersOnlyGrow, DroppedStayDropped, RefusalsMakeNone, DecidedCouldBe, LastLinesLook, DataLinesAreApart, EventsChange, CommitsAreStale, TextsStay, MetamodelsGrow, UnsignedAreRefused, OldFormsAreRefused, UpgradesStay, NewVersionsAreSigned, SignedSinceUpgrade, OldStoresReadOn, UndoGivesBack, CommitsKeepModels, ShownByOwn, ShownApart};
+ghost use Rattle.plain_repository.specs.Laws.{StartsInOrder, StaysInOrder, AllIsInOrder, OfModels, OfVersions, HasIds, ModelsAreDefined, VersionsAreDefined, MetamodelsHold, HistoriesAreWhole, WorkspacesStand, HistoryOnlyGrows, StatesStay, BranchesAreNamed, TagsAreNamed, TagNamesDiffer, EventsAreOfOne, SomeAreOfNone, WorkspacesStayApart, ModelsStayApart, NumbersOnlyGrow, DroppedStayDropped, RefusalsMakeNone, DecidedCouldBe, LastLinesLook, DataLinesAreApart, EventsChange, CommitsAreStale, TextsStay, MetamodelsGrow, DocumentsBecome, UnsignedAreRefused, OldFormsAreRefused, UpgradesStay, NewVersionsAreSigned, SignedSinceUpgrade, OldStoresReadOn, UndoGivesBack, CommitsKeepModels, ShownByOwn, ShownApart};
 ghost use Rattle.plain_repository.specs.EffectLaws.{InitsBegin, EditsLead, CheckoutsShowVersions, BeginsKeepModels, EndsKeepModels, EndsAreUndone, DiscardsGoBack, DropsTakeAway, CommitsKeepStates, BranchesKeepModels, BranchesStartAtBases, TagsNameVersions};
-ghost use Rattle.plain_repository.specs.MergeLaws.{TidyingKeepsModels, UpdatesMerge, MergesMerge, MergesCount, RevertsTakeOut};
+ghost use Rattle.plain_repository.specs.MergeLaws.{TidyingKeepsModels, UpdatesMerge, MergesMerge, MergesCount, RevertsTakeOut, UpdatesAreThreeWay, MergesAreThreeWay, UpdatesLoseNothing, MergesLoseNothing, UnaskedUpdatesLoseNothing, UnaskedMergesLoseNothing};
+ghost use Rattle.plain_repository.specs.Standing.{InitsStand, CommitsStand, SignedStand, UpdatesStand, MergesStand, CheckoutsStand, BranchesStand, EditsStand, BeginsStand, EndsStand, UndosStand, DiscardsStand, TidiesStand, CompositesAreOne, MergedStayPending, MergesAreOnce, AllOthersStay};
+ghost use Rattle.plain_repository.specs.Asked.{EventsAreAsked, CommitCommits, SignedCommits, CheckoutChecksOut, RepliesTellWhere};
 ghost use Rattle.plain_repository.specs.Store.{EachStandsOrIsDamaged, StandsForOne, IsDamagedOnce, DamagedStandsForNone};
 
 /// The law of order: all is in order in the empty repository, and each event that could be made keeps it so. The other laws are
@@ -74,9 +76,11 @@ pub fn law_of_events()
     ensures change { EventsChange }
 {}
 
-/// The law of decisions: in a state in order, each event that a command is answered with could be made there.
+/// The law of decisions: in a state in order, each event that a command is answered with could be made there. It is the one that the
+/// command asked for, with the words of its line and the text of its block; a command that only shows makes none.
 pub fn law_of_decisions()
     ensures could { DecidedCouldBe }
+    ensures asked { EventsAreAsked }
 {}
 
 /// The law of effects: an Init brings the metamodel of its text and version 0 on `trunk`. An edit leads to the model that its operations
@@ -117,10 +121,12 @@ pub fn law_of_commits()
 {}
 
 /// The law of metamodels that grow: an event leaves the metamodel or extends it to one that has all its parts, with their numbers.
+/// An Evolve brings the metamodel of its text: neither lacks a part that the other has.
 /// What `show`, `cat`, `changes` and `package` answer stays then, of all workspaces and versions.
 pub fn law_of_metamodels()
     ensures grow { MetamodelsGrow }
     ensures texts { TextsStay }
+    ensures document { DocumentsBecome }
 {}
 
 /// The law of signatures: a store that is upgraded stays so, and Upgrade alone upgrades one. Each version that an event behind
@@ -131,6 +137,39 @@ pub fn law_of_signatures()
     ensures signed { NewVersionsAreSigned }
     ensures since { SignedSinceUpgrade }
     ensures old { OldStoresReadOn }
+{}
+
+/// The law of standing: where each event leaves a workspace, field by field, and what the version that a commit makes keeps. An Init
+/// makes version 0 on `trunk`, with nothing in it. A commit,
+/// signed or not, makes one version, of the workspace's branch, base, pending versions and operations, and of the author, moment and
+/// message that are given; the workspace stands at it with nothing local. An update stands at the head, and a merge leaves the base and
+/// makes the other version pending. A checkout stands at its version on its branch, and a new branch moves the workspace onto it.
+/// Editing, composites, undo, discard and tidy leave where it stands. A composite is one operation of its name, with all steps
+/// between its beginning and its end. A merge alone makes a version pending, each once, and commits and discards alone clear them.
+/// `commit`, `signed` and `checkout` do so with the words of their lines, and replies say where the workspace then stands. All other
+/// workspaces, versions, branches and tags stay as they were.
+pub fn law_of_standing()
+    ensures inits { InitsStand }
+    ensures commits { CommitsStand }
+    ensures signed { SignedStand }
+    ensures updates { UpdatesStand }
+    ensures merges { MergesStand }
+    ensures checkouts { CheckoutsStand }
+    ensures branches { BranchesStand }
+    ensures edits { EditsStand }
+    ensures begins { BeginsStand }
+    ensures ends { EndsStand }
+    ensures undos { UndosStand }
+    ensures discards { DiscardsStand }
+    ensures tidies { TidiesStand }
+    ensures composites { CompositesAreOne }
+    ensures merged { MergedStayPending }
+    ensures once { MergesAreOnce }
+    ensures commit { CommitCommits }
+    ensures signed_commit { SignedCommits }
+    ensures checkout { CheckoutChecksOut }
+    ensures replies { RepliesTellWhere }
+    ensures others { AllOthersStay }
 {}
 
 /// The law of undoing: an operation that is recorded where no composite is open, and undone, leaves the workspace as it
@@ -148,6 +187,20 @@ pub fn law_of_merging()
     ensures merges { MergesMerge }
     ensures counted { MergesCount }
     ensures reverts { RevertsTakeOut }
+{}
+
+/// The law of the three-way merge: an update makes of the working model the three-way merge of it and the head's state over the state
+/// of the old base. So does a merge, over the state where it begins. At each cell the model has what the side that changed it has
+/// there, and else what it had. What is kept of a side stays as the side has it. Where the letters drop something, it has what the
+/// other side has. Without a conflict, so where no letters are given, nothing is lost: what one side made or set is there, and what
+/// neither touched is as it was.
+pub fn law_of_three_way()
+    ensures updates { UpdatesAreThreeWay }
+    ensures merges { MergesAreThreeWay }
+    ensures updates_lose_nothing { UpdatesLoseNothing }
+    ensures merges_lose_nothing { MergesLoseNothing }
+    ensures updates_unasked { UnaskedUpdatesLoseNothing }
+    ensures merges_unasked { UnaskedMergesLoseNothing }
 {}
 
 /// The law of stores: each file of bytes stands for a list of events, or is damaged at an offset. It stands for one list

@@ -11,5 +11,6 @@ mod laws;
 pub use laws::{
     law_of_commits, law_of_decisions, law_of_effects, law_of_events, law_of_growth, law_of_merging,
     law_of_metamodels, law_of_names, law_of_order, law_of_replies, law_of_signatures,
-    law_of_stores, law_of_undoing, law_of_versions, law_of_working_models, law_of_workspaces_apart,
+    law_of_standing, law_of_stores, law_of_three_way, law_of_undoing, law_of_versions,
+    law_of_working_models, law_of_workspaces_apart,
 };
