@@ -10,7 +10,7 @@ use Rattle.std.proofs.lemmas.Bool.{ltb-true, ltb-false}
 use Rattle.std.proofs.lemmas.Option.{slice_get-map, slice_get_past}
 use Rattle.ecore_meta.specs.Meta.{Meta}
 use Rattle.history_tree.specs.History.{History}
-use Rattle.std.specs.Prelude.{IfOk}
+use Rattle.std.specs.Prelude.{IfOk, unwrap_or}
 use Rattle.std.proofs.lemmas.Option.{same_Some}
 use Rattle.model_state.specs.Good.{Good}
 use Rattle.plain_repository.specs.Laws.{IsThere}
@@ -126,3 +126,11 @@ kept_fits s k meta h w new m begun hist there at is same kept n now =
 -- no model fits
 pub none_fits : (meta : Meta) (h : History) (w : Kept) → w.model ≡ None → ModelFits meta h w
 none_fits meta h w none m is = absurd cc
+
+-- the model that a workspace keeps is its working model
+pub kept_working : (s : State) (k : ℕ) (meta : Meta) (h : History) (w : Kept) (r : Option models.State) → s.meta ≡ Some meta → s.history ≡ h
+    → workspace_of s k ≡ Some (plain_of w) → ModelFits meta h w → r ≡ w.model → IfSome r (λ m. IsWorkingModel s k m)
+kept_working s k meta h w None begun hist at fits is = tt
+kept_working s k meta h w (Some m) begun hist at fits is =
+    let both = fits m (sym is) in
+    working_is s k meta h (plain_of w) m begun hist at (sym (ap (λ (o : Option models.State). unwrap_or o models.nothing) both.0)) both.1

@@ -64,6 +64,13 @@ keepers_gone old new ws i stays all at keeps =
     ⊎_elim (λ here. let clash : false ≡ true = here.1 in absurd cc)
     (λ other. ⊎_elim (λ has. has) (λ is. absurd (other.0 (sym (same_Some i at is)))) (stays at (all at other.1))) (set_split ws i None at keeps)
 
+-- where one gives its model away, its position may go
+pub keepers_lent : (old new : List ℕ) (ws : List (Option Kept)) (i : ℕ) (w : Kept) → w.model ≡ None
+    → ((n : ℕ) → Contains old n → Contains new n ⊎ (i ≡ n)) → KeepersAmong old ws → KeepersAmong new (set ws i (Some w))
+keepers_lent old new ws i w none stays all at keeps =
+    ⊎_elim (λ here. none_keeps w (Contains new at) none here.1)
+    (λ other. ⊎_elim (λ has. has) (λ is. absurd (other.0 (sym is))) (stays at (all at other.1))) (set_split ws i (Some w) at keeps)
+
 more : (ws : List (Option Kept)) (w : Kept) (at : ℕ) → keeps_model (get_or (ws ++ Some w ∷ []) at None) ≡ true
     → (keeps_model (Some w) ≡ true) ⊎ (keeps_model (get_or ws at None) ≡ true)
 more [] w zero keeps = inl keeps

@@ -8,6 +8,7 @@ pub mod Folding
 pub mod Grown
 pub mod Initial
 pub mod Keepers
+pub mod LedOver
 pub mod Merges
 pub mod Models
 pub mod Ordered

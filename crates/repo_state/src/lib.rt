@@ -5,6 +5,7 @@ mod evolving;
 mod fault;
 mod following;
 mod growing;
+mod handing;
 mod laws;
 mod making;
 mod merging;

@@ -230,12 +230,36 @@ impl Repo {
         ensures forms { HasEncodings self.old pool.new cache.new }
     {
         self.touch(at)?;
-        let model = self.model_out(alloc, cache, pool, ws)?;
+        let model = self.model_found(alloc, cache, pool, ws, at)?;
         self.weigh(alloc, at, &model)?;
         Ok(model)
     }
 
-    /// The same, of a workspace that was counted among those that used theirs last.
+    /// The same, of a workspace that was counted among those that used theirs last: the one that it keeps, or else one that is
+    /// taken over, or made anew.
+    fn model_found(
+        &mut self,
+        alloc: Global,
+        cache: &mut Cache,
+        pool: &mut Pool,
+        ws: u32,
+        at: usize,
+    ) -> Result<Working, AllocError>
+        requires there { is_some (workspace_of self.old ws) ≡ true }
+        requires usable { MayUse pool.old cache.old }
+        requires forms { HasEncodings self.old pool.old cache.old }
+        ensures same { self.new ≡ self.old }
+        ensures model { IfOk result (λ m. IsWorkingModel self.old ws m) }
+        ensures uses { Uses pool.old pool.new cache.old cache.new }
+        ensures forms { HasEncodings self.old pool.new cache.new }
+    {
+        match self.take_over(alloc, ws, at) {
+            Some(model) => Ok(model),
+            None => self.model_out(alloc, cache, pool, ws),
+        }
+    }
+
+    /// The same, without the models of others.
     fn model_out(
         &mut self,
         alloc: Global,

@@ -51,7 +51,7 @@ fn without(sizes: &mut Vec<Size>, at: usize)
 }
 
 /// How many elements steps create.
-fn created_by(steps: &[Step]) -> usize {
+pub(crate) fn created_by(steps: &[Step]) -> usize {
     steps
         .iter()
         .filter(|step| matches!(step, Step::New { .. }))
@@ -202,6 +202,51 @@ impl Sizes {
                 size.added = size.added.saturating_add(added);
             }
         }
+    }
+
+    /// The model of the workspace at one position is led to be that of the workspace at another. So many elements came on the way
+    /// at most, and so many went.
+    pub(crate) fn hand_over(&mut self, from: usize, at: usize, came: usize, went: usize)
+        ensures stays { (i : ℕ) → Contains (sized self.old.sizes.items) i → Contains (sized self.new.sizes.items) i ⊎ (from ≡ i) }
+    {
+        let Some(size) = self.find(from) else {
+            return;
+        };
+        let now = size.elements().saturating_add(came).saturating_sub(went);
+        let counted = size.counted.min(now);
+        without(&mut self.sizes, from);
+        if self.sizes.reserve(1).is_err() {
+            return;
+        }
+        self.sizes.push_reserved(Size {
+            at,
+            counted,
+            added: now - counted,
+        });
+    }
+
+    /// How many models have a size.
+    pub(crate) fn len(&self) -> usize {
+        self.sizes.len()
+    }
+
+    /// The position of the workspace whose model has the size at a place, and how many elements that has.
+    pub(crate) fn nth(&self, place: usize) -> Option<(usize, usize)> {
+        let size = self.sizes.get(place)?;
+        Some((size.at, size.elements()))
+    }
+
+    /// How many elements the model of the workspace at a position has, where it has a size.
+    pub(crate) fn elements_at(&self, at: usize) -> usize {
+        match self.find(at) {
+            None => 0,
+            Some(size) => size.elements(),
+        }
+    }
+
+    /// Whether the models that are kept have so many elements together that one more of so many is one too many.
+    pub(crate) fn is_crowded(&self, more: usize) -> bool {
+        self.total().saturating_add(more) > MOST_ELEMENTS
     }
 
     /// Takes out the size of the model used longest ago, where all together have more elements than that, and it is not of

@@ -6,7 +6,7 @@ ghost use Rattle.model_state.specs.Good.{Good};
 ghost use Rattle.model_state.specs.Steps.{fold};
 ghost use Rattle.model_state.specs.Packages.{fold_package};
 ghost use Rattle.history_tree.specs.States.{state_folded, state_of};
-ghost use Rattle.plain_repository.specs.State.{model_of, folded, recorded_steps, untouched, has_operations, has_local, is_closed, is_open};
+ghost use Rattle.plain_repository.specs.State.{model_of, folded, open_steps, recorded_steps, untouched, has_operations, has_local, is_closed, is_open};
 ghost use Rattle.plain_repository.specs.Commits.{version_of, committed};
 ghost use Rattle.plain_repository.specs.Composites.{with_open, with_closed};
 ghost use Rattle.plain_repository.specs.Edits.{takes, with_more};
@@ -19,7 +19,7 @@ ghost use Rattle.repo_state.specs.Planning.{replaced, restarted, taken_up};
 
 use crate::following::{model_after, model_before, model_before_one, updated_model};
 use crate::merging::{Merged, Updated};
-use crate::sizes::{created, deleted, deleted_by};
+use crate::sizes::{created, created_by, deleted, deleted_by};
 use ecore_meta::{CompactList, Metamodel};
 use history_tree::{History, Signature, Version};
 use model_state::{Operation, Package, Step, StepFault};
@@ -29,7 +29,7 @@ use state_cache::Cache;
 use std::alloc::{AllocError, Global};
 use std::mem::replace;
 use texts::{List, Text};
-use version_states::{follow, state_at, steps_out, take_steps};
+use version_states::{follow, go_over, state_at, steps_in, steps_out, take_back_all, take_steps};
 use working_model::Working;
 
 /// A composite that is open: its name, and the steps recorded in it so far.
@@ -425,6 +425,15 @@ impl Workspace {
         }
     }
 
+    /// The model that is kept, if one is. The workspace keeps none from now on.
+    pub(crate) fn give_model(&mut self) -> Option<Working>
+        ensures same { plain_of self.new ≡ plain_of self.old }
+        ensures taken { self.new.model ≡ None }
+        ensures was { result ≡ self.old.model }
+    {
+        self.model.take()
+    }
+
     /// The workspace keeps this model, or none.
     pub(crate) fn keep_model(&mut self, model: Option<Working>)
         ensures same { plain_of self.new ≡ plain_of self.old }
@@ -462,6 +471,87 @@ impl Workspace {
                 _ => unreachable!(),
             },
         }
+    }
+
+    /// The steps of the composite that is open, none where none is.
+    fn open_steps(&self) -> &[Step]
+        ensures { result.now ≡ open_steps (plain_of self.now).composite }
+    {
+        match &self.composite {
+            None => &[],
+            Some(composite) => composite.steps.as_slice(),
+        }
+    }
+
+    /// The state of the base, of the working model. What is recorded is taken back.
+    fn unwind(
+        &self,
+        alloc: Global,
+        model: Working,
+        meta: &Metamodel,
+        _history: &History,
+    ) -> Result<Working, AllocError>
+        requires sound { Sound meta.now }
+        requires base { Good meta.now (state_of meta.now _history.now.history self.now.base) }
+        requires model { folded meta.now _history.now.history (plain_of self.now) ≡ Some model }
+        ensures state { IfOk result (λ m. m ≡ state_of meta.now _history.now.history self.now.base) }
+        ensures good { IfOk result (λ m. Good meta.now m) }
+    {
+        let mut model = model;
+        let operations = self.operations.as_slice();
+        let steps = self.open_steps();
+        take_back_all(alloc, &mut model, meta, operations, steps)?;
+        Ok(model)
+    }
+
+    /// The working model, made of that of another workspace: what is recorded there is taken back, then comes the way from the
+    /// base there to the one here, and what is recorded here.
+    pub(crate) fn model_from(
+        &self,
+        alloc: Global,
+        meta: &Metamodel,
+        history: &History,
+        other: &Workspace,
+        model: Working,
+    ) -> Result<Working, AllocError>
+        requires sound { Sound meta.now }
+        requires there { self.now.base < length history.now.history.versions }
+        requires base { is_some (state_folded meta.now history.now.history self.now.base) ≡ true }
+        requires leads { is_some (folded meta.now history.now.history (plain_of self.now)) ≡ true }
+        requires other_there { other.now.base < length history.now.history.versions }
+        requires other_base { is_some (state_folded meta.now history.now.history other.now.base) ≡ true }
+        requires other_good { Good meta.now (state_of meta.now history.now.history other.now.base) }
+        requires model { folded meta.now history.now.history (plain_of other.now) ≡ Some model }
+        ensures model { IfOk result (λ m. m ≡ model_of meta.now history.now.history (plain_of self.now)) }
+        ensures good { IfOk result (λ m. Good meta.now m) }
+    {
+        let mut model = other.unwind(alloc, model, meta, history)?;
+        go_over(alloc, &mut model, meta, history, other.base, self.base)?;
+        match self.retake(&mut model, meta) {
+            Ok(()) => Ok(model),
+            Err(fault) => match fault {
+                StepFault::Memory => Err(AllocError),
+                _ => unreachable!(),
+            },
+        }
+    }
+
+    /// How many steps are recorded. Where these are more than so many, some number above that.
+    pub(crate) fn recorded(&self, most: usize) -> usize {
+        let open = match &self.composite {
+            None => 0,
+            Some(composite) => composite.steps.len(),
+        };
+        steps_in(self.operations.as_slice(), most).saturating_add(open)
+    }
+
+    /// How many elements all that is local creates.
+    pub(crate) fn local_created(&self) -> usize {
+        let in_composite = match &self.composite {
+            None => 0,
+            Some(composite) => created_by(composite.steps.as_slice()),
+        };
+        created(self.operations.as_slice()).saturating_add(in_composite)
     }
 
     /// Takes all that is recorded on the state of the base. After an error the model is of no use.

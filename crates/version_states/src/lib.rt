@@ -4,6 +4,8 @@
 mod cached;
 mod states;
 mod trying;
+mod ways;
 
 pub use states::{follow, follow_all, state_at, steps_out, stop_in, take_back, take_steps};
 pub use trying::take_all;
+pub use ways::{go_over, steps_between, steps_in, take_back_all};

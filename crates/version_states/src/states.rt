@@ -177,7 +177,7 @@ pub fn stop_in(
 }
 
 /// Takes the operations of versions, one version after another. After an error the model is of no use.
-fn follow_versions(
+pub(crate) fn follow_versions(
     model: &mut Working,
     meta: &Metamodel,
     history: &History,
