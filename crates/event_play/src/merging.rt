@@ -1,16 +1,21 @@
 //! What the events Tidy, Update and Merge make of a workspace. Each call changes nothing when out of memory.
-ghost use Rattle.std.specs.Prelude.{◌≡◌, IfOk, IsErrOf, OnErr, OnOk, false, true};
+ghost use Rattle.std.specs.Prelude.{◌≡◌, IfOk, IsErrOf, OnErr, OnOk, Some, false, true};
+ghost use Rattle.history_tree.specs.History.{head};
+ghost use Rattle.merge_laws.specs.Choices.{are_choices};
 ghost use Rattle.op_form.specs.declared.event.Event.TheVariants.{Merge, Tidy, Update};
 ghost use Rattle.op_form.specs.Formed.{IsEvent};
 ghost use Rattle.plain_repository.specs.Events.{effect, playable_with};
-ghost use Rattle.plain_repository.specs.State.{with_changed};
-ghost use Rattle.repo_state.specs.Planning.{AreTheirs, KeepModel, replaced, restarted, taken_up};
+ghost use Rattle.plain_repository.specs.State.{with_changed, workspace_of};
+ghost use Rattle.repo_state.specs.Keeping.{plain_of};
+ghost use Rattle.repo_state.specs.Planning.{IsMergePlan, IsUpdatePlan, KeepModel, replaced};
+ghost use Rattle.event_play.specs.Foreseen.{IsForeseen, IsMerge, IsUpdate};
 
+use crate::foreseen::Foreseen;
 use canoniser::{is_tidy, tidy as tidy_package};
-use merge_plans::{are_choices, copy_operations};
+use merge_plans::{Plan, are_choices, copy_operations};
 use model_state::Package;
-use repo_state::{Merged, PlayFault, Repo, Updated};
-use std::alloc::Global;
+use repo_state::{Begun, Merged, PlayFault, Repo, Updated, Workspace};
+use std::alloc::{AllocError, Global};
 use texts::Text;
 
 /// The operations of a workspace once it is tidied.
@@ -38,11 +43,38 @@ fn tidied(alloc: Global, repo: &Repo, ws: u32) -> Result<Package, PlayFault>
     Ok(list)
 }
 
-/// What is local in a workspace once it is updated by choices.
+/// What is local in a workspace once it is updated to the head of its branch by a plan, and by choices that fit it.
+pub fn update_by(
+    alloc: Global,
+    _repo: &Repo,
+    begun: &Begun,
+    _ws: u32,
+    _workspace: &Workspace,
+    base: u32,
+    plan: Plan,
+    letters: &Text,
+) -> Result<Updated, AllocError>
+    requires meta { _repo.now.meta ≡ Some begun.now.meta }
+    requires history { _repo.now.history ≡ begun.now.history.history }
+    requires there { workspace_of _repo.now _ws ≡ Some (plain_of _workspace.now) }
+    requires at { base ≡ head begun.now.history.history _workspace.now.branch }
+    requires plan { IsUpdatePlan begun.now.meta begun.now.history.history (plain_of _workspace.now) plan }
+    requires fit { are_choices letters.now plan.buckets.rows ≡ true }
+    requires could { playable_with _repo.now _repo.now.meta (Update _ws letters.now) ≡ true }
+    ensures { IfOk result (λ u. IsUpdate _repo.now _ws letters.now u) }
+{
+    _repo.recall_order();
+    let operations = plan.update_list(alloc, &begun.meta, letters.as_str())?;
+    Ok(Updated {
+        base,
+        theirs: plan.theirs,
+        operations,
+    })
+}
+
+/// The same, by choices that may not fit.
 fn updated(alloc: Global, repo: &Repo, ws: u32, letters: &Text) -> Result<Updated, PlayFault>
-    ensures could { IfOk result (λ _. playable_with repo.now repo.now.meta (Update ws letters.now) ≡ true) }
-    ensures leads { IfOk result (λ l. with_changed (restarted l.base l.operations) ws repo.now ≡ effect repo.now (Update ws letters.now)) }
-    ensures theirs { IfOk result (λ l. AreTheirs repo.now ws l.base l.theirs) }
+    ensures update { IfOk result (λ u. IsUpdate repo.now ws letters.now u) }
     ensures cannot { IsErrOf result PlayFault.NotPlayable → playable_with repo.now repo.now.meta (Update ws letters.now) ≡ false }
 {
     let Some(begun) = repo.begun() else {
@@ -60,15 +92,55 @@ fn updated(alloc: Global, repo: &Repo, ws: u32, letters: &Text) -> Result<Update
     if !are_choices(letters.as_str(), plan.buckets.rows.as_slice()) {
         return Err(PlayFault::NotPlayable);
     }
-    let operations = plan.update_list(alloc, &begun.meta, letters.as_str())?;
-    Ok(Updated {
-        base: head,
-        theirs: plan.theirs,
-        operations,
-    })
+    let updated = update_by(alloc, repo, begun, ws, workspace, head, plan, letters)?;
+    Ok(updated)
 }
 
-/// What a merge of another branch brings into a workspace by choices.
+/// What was foreseen of an update, or else what is found out now.
+fn update_seen(
+    alloc: Global,
+    repo: &Repo,
+    ws: u32,
+    letters: &Text,
+    foreseen: Foreseen,
+) -> Result<Updated, PlayFault>
+    requires foreseen { IsForeseen repo.now (Update ws letters.now) foreseen }
+    ensures update { IfOk result (λ u. IsUpdate repo.now ws letters.now u) }
+    ensures cannot { IsErrOf result PlayFault.NotPlayable → playable_with repo.now repo.now.meta (Update ws letters.now) ≡ false }
+{
+    match foreseen {
+        Foreseen::Update(updated) => Ok(updated),
+        Foreseen::Nothing => updated(alloc, repo, ws, letters),
+        Foreseen::Merge(_) => unreachable!(),
+    }
+}
+
+/// What a merge of another branch, whose head the version is, brings into a workspace by a plan, and by choices that fit it.
+pub fn merge_by(
+    alloc: Global,
+    _repo: &Repo,
+    begun: &Begun,
+    _ws: u32,
+    _workspace: &Workspace,
+    _branch: u32,
+    version: u32,
+    plan: Plan,
+    letters: &Text,
+) -> Result<Merged, AllocError>
+    requires meta { _repo.now.meta ≡ Some begun.now.meta }
+    requires history { _repo.now.history ≡ begun.now.history.history }
+    requires there { workspace_of _repo.now _ws ≡ Some (plain_of _workspace.now) }
+    requires at { version ≡ head begun.now.history.history _branch }
+    requires plan { IsMergePlan begun.now.meta begun.now.history.history (plain_of _workspace.now) version plan }
+    requires fit { are_choices letters.now plan.buckets.rows ≡ true }
+    requires could { playable_with _repo.now _repo.now.meta (Merge _ws _branch letters.now) ≡ true }
+    ensures { IfOk result (λ m. IsMerge _repo.now _ws _branch letters.now m) }
+{
+    let more = plan.merge_list(alloc, &begun.meta, letters.as_str())?;
+    Ok(Merged { more, version })
+}
+
+/// The same, by choices that may not fit.
 fn merged(
     alloc: Global,
     repo: &Repo,
@@ -76,8 +148,7 @@ fn merged(
     branch: u32,
     letters: &Text,
 ) -> Result<Merged, PlayFault>
-    ensures could { IfOk result (λ _. playable_with repo.now repo.now.meta (Merge ws branch letters.now) ≡ true) }
-    ensures leads { IfOk result (λ m. with_changed (taken_up m.more m.version) ws repo.now ≡ effect repo.now (Merge ws branch letters.now)) }
+    ensures merge { IfOk result (λ m. IsMerge repo.now ws branch letters.now m) }
     ensures cannot { IsErrOf result PlayFault.NotPlayable → playable_with repo.now repo.now.meta (Merge ws branch letters.now) ≡ false }
 {
     let Some(begun) = repo.begun() else {
@@ -95,8 +166,30 @@ fn merged(
     if plan.theirs.len() == 0 || !are_choices(letters.as_str(), plan.buckets.rows.as_slice()) {
         return Err(PlayFault::NotPlayable);
     }
-    let more = plan.merge_list(alloc, &begun.meta, letters.as_str())?;
-    Ok(Merged { more, version })
+    let merged = merge_by(
+        alloc, repo, begun, ws, workspace, branch, version, plan, letters,
+    )?;
+    Ok(merged)
+}
+
+/// What was foreseen of a merge, or else what is found out now.
+fn merge_seen(
+    alloc: Global,
+    repo: &Repo,
+    ws: u32,
+    branch: u32,
+    letters: &Text,
+    foreseen: Foreseen,
+) -> Result<Merged, PlayFault>
+    requires foreseen { IsForeseen repo.now (Merge ws branch letters.now) foreseen }
+    ensures merge { IfOk result (λ m. IsMerge repo.now ws branch letters.now m) }
+    ensures cannot { IsErrOf result PlayFault.NotPlayable → playable_with repo.now repo.now.meta (Merge ws branch letters.now) ≡ false }
+{
+    match foreseen {
+        Foreseen::Merge(merged) => Ok(merged),
+        Foreseen::Nothing => merged(alloc, repo, ws, branch, letters),
+        Foreseen::Update(_) => unreachable!(),
+    }
 }
 
 /// Tidies a workspace.
@@ -119,15 +212,17 @@ pub(crate) fn update(
     repo: &mut Repo,
     ws: u32,
     letters: &Text,
+    foreseen: Foreseen,
 ) -> Result<(), PlayFault>
     requires spelled { IsEvent (Update ws letters.now) }
+    requires foreseen { IsForeseen repo.old (Update ws letters.now) foreseen }
     ensures could { OnOk result (playable_with repo.old repo.old.meta (Update ws letters.now) ≡ true) }
     ensures done { OnOk result (repo.new ≡ effect repo.old (Update ws letters.now)) }
     ensures same { OnErr result (repo.new ≡ repo.old) }
     ensures cannot { IsErrOf result PlayFault.NotPlayable → playable_with repo.old repo.old.meta (Update ws letters.now) ≡ false }
 {
     repo.recall_order();
-    let updated = updated(alloc, repo, ws, letters)?;
+    let updated = update_seen(alloc, repo, ws, letters, foreseen)?;
     repo.update(alloc, ws, updated);
     Ok(())
 }
@@ -139,15 +234,17 @@ pub(crate) fn merge(
     ws: u32,
     branch: u32,
     letters: &Text,
+    foreseen: Foreseen,
 ) -> Result<(), PlayFault>
     requires spelled { IsEvent (Merge ws branch letters.now) }
+    requires foreseen { IsForeseen repo.old (Merge ws branch letters.now) foreseen }
     ensures could { OnOk result (playable_with repo.old repo.old.meta (Merge ws branch letters.now) ≡ true) }
     ensures done { OnOk result (repo.new ≡ effect repo.old (Merge ws branch letters.now)) }
     ensures same { OnErr result (repo.new ≡ repo.old) }
     ensures cannot { IsErrOf result PlayFault.NotPlayable → playable_with repo.old repo.old.meta (Merge ws branch letters.now) ≡ false }
 {
     repo.recall_order();
-    let merged = merged(alloc, repo, ws, branch, letters)?;
+    let merged = merge_seen(alloc, repo, ws, branch, letters, foreseen)?;
     repo.take_up(alloc, ws, merged)?;
     Ok(())
 }

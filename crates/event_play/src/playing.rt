@@ -9,8 +9,10 @@ ghost use Rattle.plain_repository.specs.State.{workspace_of, is_closed, is_open,
 ghost use Rattle.plain_repository.specs.Events.{effect, play, playable, playable_with, suits};
 ghost use Rattle.version_states.specs.Cached.{MayUse, Uses};
 ghost use Rattle.repo_state.specs.Cached.{HasEncodings};
+ghost use Rattle.event_play.specs.Foreseen.{IsForeseen};
 ghost use Rattle.event_play.specs.Playing.{is_at_head, is_tested_late};
 
+use crate::foreseen::Foreseen;
 use crate::merging::{merge, tidy, update};
 use commit_journal::{MOST_BYTES, next_gate};
 use history_tree::Signature;
@@ -236,10 +238,12 @@ fn change(
     pool: &mut Pool,
     repo: &mut Repo,
     event: Event,
+    foreseen: Foreseen,
 ) -> Result<(), PlayFault>
     requires tested { (is_tested_late event || playable_with repo.old repo.old.meta event) ≡ true }
     requires spelled { IsEvent event }
     requires short { length (event_encoding event) ≤ most_bytes }
+    requires foreseen { IsForeseen repo.old event foreseen }
     requires usable { MayUse pool.old cache.old }
     requires forms { HasEncodings repo.old pool.old cache.old }
     ensures could { OnOk result (playable_with repo.old repo.old.meta event ≡ true) }
@@ -270,12 +274,12 @@ fn change(
         Event::Commit { ws, message } => Ok(repo.commit(alloc, ws, None, message)?),
         Event::Branch { ws, name } => Ok(repo.branch(ws, name)?),
         Event::Tag { name, version } => Ok(repo.tag(name, version)?),
-        Event::Update { ws, choices } => update(alloc, repo, ws, &choices),
+        Event::Update { ws, choices } => update(alloc, repo, ws, &choices, foreseen),
         Event::Merge {
             ws,
             branch,
             choices,
-        } => merge(alloc, repo, ws, branch, &choices),
+        } => merge(alloc, repo, ws, branch, &choices, foreseen),
         Event::Drop { ws } => {
             repo.drop_workspace(ws);
             Ok(())
@@ -306,9 +310,11 @@ fn make(
     pool: &mut Pool,
     repo: &mut Repo,
     event: Event,
+    foreseen: Foreseen,
     size: usize,
 ) -> Result<(), PlayFault>
     requires event { is_event event ≡ true }
+    requires foreseen { IsForeseen repo.old event foreseen }
     requires size { size ≡ length (event_encoding event) }
     requires room { next_gate repo.old.end size < 2 ^ 40 }
     requires usable { MayUse pool.old cache.old }
@@ -331,12 +337,12 @@ fn make(
     repo.recall_order();
     let events = repo.event_count() + 1;
     let end = next_gate(repo.end(), size as u64);
-    change(alloc, cache, pool, repo, event)?;
+    change(alloc, cache, pool, repo, event, foreseen)?;
     repo.set_journal(events, end);
     Ok(())
 }
 
-/// Makes an event that could be made, whose bytes are so many. What the event has is moved into the repository. When out of memory
+/// Makes an event that could be made, whose bytes are so many, with what was foreseen of it. What the event has is moved into the repository. When out of memory
 /// the repository stays as it is.
 pub fn play(
     alloc: Global,
@@ -344,9 +350,11 @@ pub fn play(
     pool: &mut Pool,
     repo: &mut Repo,
     event: Event,
+    foreseen: Foreseen,
     size: usize,
 ) -> Result<(), AllocError>
     requires can { IsTrue (playable repo.old event) }
+    requires foreseen { IsForeseen repo.old event foreseen }
     requires size { size ≡ length (event_encoding event) }
     requires room { next_gate repo.old.end size < 2 ^ 40 }
     requires usable { MayUse pool.old cache.old }
@@ -356,7 +364,7 @@ pub fn play(
     ensures uses { Uses pool.old pool.new cache.old cache.new }
     ensures forms { HasEncodings repo.new pool.new cache.new }
 {
-    match make(alloc, cache, pool, repo, event, size) {
+    match make(alloc, cache, pool, repo, event, foreseen, size) {
         Ok(()) => Ok(()),
         Err(PlayFault::Memory) => Err(AllocError),
         Err(PlayFault::NotPlayable) => unreachable!(),
@@ -390,5 +398,13 @@ pub fn play_bytes(
         Err(FormFault::NotForm { .. }) => return Err(PlayFault::NotPlayable),
         Err(FormFault::Memory) => return Err(PlayFault::Memory),
     };
-    make(alloc, cache, pool, repo, event, bytes.len())
+    make(
+        alloc,
+        cache,
+        pool,
+        repo,
+        event,
+        Foreseen::Nothing,
+        bytes.len(),
+    )
 }

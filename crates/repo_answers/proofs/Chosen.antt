@@ -75,3 +75,7 @@ pub update_could : (s : State) (meta : Meta) (ws : ℕ) (letters : List ℕ) (w 
     → is_open (Some w) ≡ false → w.base ≢ head s.history w.branch
     → are_choices letters (update_buckets meta s.history w) ≡ true → playable_with s s.meta (Update ws letters) ≡ true
 update_could s meta ws letters w begun there shut other fit = rw (begun, there, shut, ne_eqb w.base (head s.history w.branch) other, fit) refl
+
+-- the buckets of a plan, by the history of the state
+pub plan_rows_are : (h g : History) (meta : Meta) (w : Workspace) (rows : List Bucket) → h ≡ g → rows ≡ update_buckets meta g w → rows ≡ update_buckets meta h w
+plan_rows_are h g meta w rows same is = is ∙ ap (λ (k : History). update_buckets meta k w) (sym same)

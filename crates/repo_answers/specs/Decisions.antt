@@ -8,6 +8,7 @@ use Rattle.op_form.specs.Events.{event_encoding}
 use Rattle.plain_repository.specs.State.{State}
 use Rattle.plain_repository.specs.Events.{playable}
 use Rattle.plain_repository.specs.Answers as plain
+use Rattle.event_play.specs.Foreseen.{IsForeseen}
 use Rattle.repo_answers.specs.declared.deciding.answers.Decision.{Decision}
 use Rattle.repo_answers.specs.declared.deciding.answers.Made.{Made}
 
@@ -20,11 +21,12 @@ event_of (Some made) = Some made.event
 abbrev pub plain_decision : Decision → plain.Decision
 plain_decision decision = record { reply = decision.reply; event = event_of decision.made }
 
--- an event that can be made on a state has its bytes beside it, and the journal has room for them
+-- an event that can be made on a state has its bytes beside it, and what is foreseen of it there; the journal has room for them
 pub record CanMake (state : State) (made : Made) : Type 0 where
   pub form_is : made.form.items ≡ event_encoding made.event
   pub playable : IsTrue (playable state made.event)
   pub fits : RecordFits state.end (length (event_encoding made.event))
+  pub foreseen : IsForeseen state made.event made.foreseen
 
 -- such an event, or none
 abbrev pub CanMakeIt : State → Option Made → Type 0

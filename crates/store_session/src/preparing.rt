@@ -14,6 +14,7 @@ ghost use Rattle.state_cache.specs.Entries.{HoldsAll, stands};
 ghost use Rattle.repo_state.specs.Cached.{HasEncodings};
 ghost use Rattle.repo_answers.specs.Decisions.{IsShortBlock};
 ghost use Rattle.repo_answers.specs.Loads.{MakesEventOf};
+ghost use Rattle.event_play.specs.Foreseen.{IsForeseen};
 ghost use Rattle.script_lang.specs.Reply.{printed};
 ghost use Rattle.script_lang.specs.declared.reply.Last.TheVariants as last;
 ghost use Rattle.store_session.specs.Session.{answer_to, answered_as, IsStoreOf, IsEntering, IfMade, IsPrepared, IsRecordOf, HoldsBoth, LeavesRecord};
@@ -21,7 +22,7 @@ ghost use Rattle.store_session.specs.declared.answered.SessionFault.TheVariants.
 
 use crate::answered::{Answered, SessionFault, kind_of};
 use commit_journal::{Fit, Journal, Prepared, fits, give_up};
-use event_play::{play, play_bytes};
+use event_play::{Foreseen, play, play_bytes};
 use host_port::Host;
 use op_form::Event;
 use page_pool::{Pool, count_frames};
@@ -71,10 +72,12 @@ fn play_ready(
     cache: &mut Cache,
     repo: &mut Repo,
     event: Event,
+    foreseen: Foreseen,
     form: &[u8],
     prepared: Prepared,
 ) -> Result<Prepared, AllocError>
     requires can { IsTrue (playable repo.old event) }
+    requires foreseen { IsForeseen repo.old event foreseen }
     requires form { form.now ≡ event_encoding event }
     requires fits { RecordFits repo.old.end (length form.now) }
     requires holds { HoldsRecord pool.old prepared form.now }
@@ -87,7 +90,7 @@ fn play_ready(
     ensures all { OnErr result (HoldsAll pool.new cache.new) }
     ensures forms { HasEncodings repo.new pool.new cache.new }
 {
-    match play(alloc, cache, pool, repo, event, form.len()) {
+    match play(alloc, cache, pool, repo, event, foreseen, form.len()) {
         Ok(()) => Ok(prepared),
         Err(fault) => {
             give_up(prepared, pool);
@@ -273,7 +276,14 @@ fn prepare_decided(
     let Decision { reply, made } = decide(alloc, cache, pool, repo, line, block)?;
     let answered = kind_of(&reply);
     let reply = print_reply(alloc, &reply)?;
-    let Some(Made { event, form }) = made else {
+    let Some(
+        Made {
+            event,
+            form,
+            foreseen,
+        },
+    ) = made
+    else {
         return Ok(PreparedAnswer {
             reply,
             answered,
@@ -281,7 +291,7 @@ fn prepare_decided(
         });
     };
     let prepared = make_ready(alloc, pool, cache, repo, journal, &form)?;
-    let prepared = play_ready(alloc, pool, cache, repo, event, &form, prepared)?;
+    let prepared = play_ready(alloc, pool, cache, repo, event, foreseen, &form, prepared)?;
     Ok(PreparedAnswer {
         reply,
         answered,

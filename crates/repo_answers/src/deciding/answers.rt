@@ -5,20 +5,24 @@ ghost use Rattle.plain_repository.specs.State.{State};
 ghost use Rattle.plain_repository.specs.Answers as plain;
 ghost use Rattle.plain_repository.specs.Answers.{accepted, refused, refused_with, told, with_room};
 ghost use Rattle.plain_repository.specs.Events.{playable_with, suits};
+ghost use Rattle.event_play.specs.Foreseen.{IsForeseen};
+ghost use Rattle.event_play.specs.declared.foreseen.Foreseen.{Foreseen};
 ghost use Rattle.repo_answers.specs.Decisions.{plain_decision, CanMake, CanMakeIt};
 
 use commit_journal::{Fit, fits};
+use event_play::Foreseen;
 use op_form::{Event, encode_event, has_encoding};
 use repo_state::Repo;
 use script_lang::{Last, Refusal, Reply};
 use std::alloc::{AllocError, Global};
 use texts::{List, Text};
 
-/// An event that is to be made, and its bytes.
+/// An event that is to be made, its bytes, and what was found out of it.
 #[derive(Drop)]
 pub struct Made {
     pub event: Event,
     pub form: Vec<u8>,
+    pub foreseen: Foreseen,
 }
 
 /// A reply, and the event that goes with it.
@@ -123,7 +127,7 @@ fn form_of(alloc: Global, repo: &Repo, event: &Event) -> Result<Vec<u8>, Option<
     requires could { playable_with repo.now repo.now.meta event.now ≡ true }
     requires suits { suits repo.now.upgraded event.now ≡ true }
     ensures accepted { IfOk result (λ form. (lines : List (List ℕ)) (words : List ℕ) → accepted lines words event.now ≡ with_room repo.now lines words event.now) }
-    ensures made { IfOk result (λ form. CanMake repo.now (record { event = event.now; form = form })) }
+    ensures made { IfOk result (λ form. (f : Foreseen) → IsForeseen repo.now event.now f → CanMake repo.now (record { event = event.now; form = form; foreseen = f })) }
     ensures refused { IfErr result (λ fault. (lines : List (List ℕ)) (words : List ℕ) → IfSome fault (λ refusal. refused refusal ≡ with_room repo.now lines words event.now)) }
 {
     if repo.is_full() {
@@ -157,8 +161,34 @@ pub(crate) fn with_room(
     ensures decision { IfOk result (λ d. plain_decision d ≡ with_room repo.now lines words event) }
     ensures made { IfOk result (λ d. CanMakeIt repo.now d.made) }
 {
+    with_foreseen(alloc, repo, lines, words, event, Foreseen::Nothing)
+}
+
+/// The same, with what was foreseen of the event.
+fn with_foreseen(
+    alloc: Global,
+    repo: &Repo,
+    lines: List<Text>,
+    words: Text,
+    event: Event,
+    foreseen: Foreseen,
+) -> Result<Decision, AllocError>
+    requires could { playable_with repo.now repo.now.meta event ≡ true }
+    requires suits { suits repo.now.upgraded event ≡ true }
+    requires foreseen { IsForeseen repo.now event foreseen }
+    ensures decision { IfOk result (λ d. plain_decision d ≡ with_room repo.now lines words event) }
+    ensures made { IfOk result (λ d. CanMakeIt repo.now d.made) }
+{
     match form_of(alloc, repo, &event) {
-        Ok(form) => Ok(accept(lines, words, Made { event, form })),
+        Ok(form) => Ok(accept(
+            lines,
+            words,
+            Made {
+                event,
+                form,
+                foreseen,
+            },
+        )),
         Err(fault) => refuse_or_fail(alloc, fault),
     }
 }
@@ -207,4 +237,24 @@ pub(crate) fn with_number(
 {
     let words = number_words(alloc, n);
     with_words(alloc, repo, List::new(alloc), words, event)
+}
+
+/// The same, with what was foreseen of the event.
+pub(crate) fn with_number_foreseen(
+    alloc: Global,
+    repo: &Repo,
+    n: u64,
+    event: Event,
+    foreseen: Foreseen,
+) -> Result<Decision, AllocError>
+    requires could { playable_with repo.now repo.now.meta event ≡ true }
+    requires suits { suits repo.now.upgraded event ≡ true }
+    requires foreseen { IsForeseen repo.now event foreseen }
+    ensures decision { IfOk result (λ d. plain_decision d ≡ with_room repo.now [] (decimal n) event) }
+    ensures made { IfOk result (λ d. CanMakeIt repo.now d.made) }
+{
+    match number_words(alloc, n) {
+        Ok(words) => with_foreseen(alloc, repo, List::new(alloc), words, event, foreseen),
+        Err(fault) => Err(fault),
+    }
 }

@@ -5,12 +5,12 @@ ghost use Rattle.plain_repository.specs.Choices.{chosen};
 ghost use Rattle.plain_repository.specs.Merging.{decide_merge, decide_update, merge_buckets, merge_to, update_buckets, update_to};
 ghost use Rattle.plain_repository.specs.State.{is_open, workspace_of};
 ghost use Rattle.repo_state.specs.Keeping.{plain_of};
-ghost use Rattle.repo_state.specs.Planning.{AllHaveNumbers, IsMergePlan};
+ghost use Rattle.repo_state.specs.Planning.{IsMergePlan, IsUpdatePlan};
 ghost use Rattle.repo_answers.specs.Decisions.{plain_decision, CanMakeIt};
 
-use crate::deciding::answers::{Decision, refuse, tell_number, with_number};
+use crate::deciding::answers::{Decision, refuse, tell_number, with_number_foreseen};
 use crate::deciding::choosing::{refused_choices, text_or_empty};
-use footprint::Buckets;
+use event_play::{Foreseen, merge_by, update_by};
 use merge_plans::Plan;
 use op_form::Event;
 use repo_state::{Begun, Repo, Workspace};
@@ -40,30 +40,29 @@ pub(crate) fn decide_update(
     }
     repo.recall_order();
     let plan = begun.update_plan(alloc, workspace)?;
-    decide_update_of(alloc, repo, begun, ws, workspace, &plan.buckets, choices)
+    decide_update_of(alloc, repo, begun, ws, workspace, plan, choices)
 }
 
-/// The same, by the buckets of the update, of a workspace without an open composite.
+/// The same, by the plan of the update, of a workspace without an open composite.
 fn decide_update_of(
     alloc: Global,
     repo: &Repo,
     begun: &Begun,
     ws: u32,
     workspace: &Workspace,
-    buckets: &Buckets,
+    plan: Plan,
     choices: &Option<Text>,
 ) -> Result<Decision, AllocError>
     requires meta { repo.now.meta ≡ Some begun.now.meta }
     requires history { repo.now.history ≡ begun.now.history.history }
     requires there { workspace_of repo.now ws ≡ Some (plain_of workspace.now) }
     requires closed { is_open (Some (plain_of workspace.now)) ≡ false }
-    requires rows { buckets.now.rows ≡ update_buckets begun.now.meta repo.now.history (plain_of workspace.now) }
-    requires places { AllHaveNumbers buckets.now.rows }
+    requires plan { IsUpdatePlan begun.now.meta begun.now.history.history (plain_of workspace.now) plan }
     requires branch { workspace.now.branch < length begun.now.history.history.branches }
     ensures decision { IfOk result (λ d. plain_decision d ≡ chosen (update_buckets begun.now.meta repo.now.history (plain_of workspace.now)) choices.now (update_to repo.now ws (plain_of workspace.now) (unwrap_or choices.now []) (head repo.now.history workspace.now.branch))) }
     ensures made { IfOk result (λ d. CanMakeIt repo.now d.made) }
 {
-    if let Some(refused) = refused_choices(alloc, buckets, choices)? {
+    if let Some(refused) = refused_choices(alloc, &plan.buckets, choices)? {
         return Ok(refused);
     }
     let head = begun.history.head(workspace.branch);
@@ -71,7 +70,9 @@ fn decide_update_of(
         return tell_number(alloc, head as u64);
     }
     let choices = text_or_empty(alloc, choices)?;
-    with_number(alloc, repo, head as u64, Event::Update { ws, choices })
+    let updated = update_by(alloc, repo, begun, ws, workspace, head, plan, &choices)?;
+    let event = Event::Update { ws, choices };
+    with_number_foreseen(alloc, repo, head as u64, event, Foreseen::Update(updated))
 }
 
 /// `merge WS BRANCH [CHOICES]`: what another branch has comes after what the workspace has.
@@ -128,7 +129,7 @@ fn decide_merge_of(
     let head = begun.history.head(branch);
     let plan = begun.merge_plan(alloc, workspace, head)?;
     decide_merge_by(
-        alloc, repo, begun, ws, workspace, branch, head, &plan, choices,
+        alloc, repo, begun, ws, workspace, branch, head, plan, choices,
     )
 }
 
@@ -136,23 +137,23 @@ fn decide_merge_of(
 fn decide_merge_by(
     alloc: Global,
     repo: &Repo,
-    _begun: &Begun,
+    begun: &Begun,
     ws: u32,
-    _workspace: &Workspace,
+    workspace: &Workspace,
     branch: u32,
     other: u32,
-    plan: &Plan,
+    plan: Plan,
     choices: &Option<Text>,
 ) -> Result<Decision, AllocError>
-    requires meta { repo.now.meta ≡ Some _begun.now.meta }
-    requires history { repo.now.history ≡ _begun.now.history.history }
-    requires there { workspace_of repo.now ws ≡ Some (plain_of _workspace.now) }
-    requires closed { is_open (Some (plain_of _workspace.now)) ≡ false }
+    requires meta { repo.now.meta ≡ Some begun.now.meta }
+    requires history { repo.now.history ≡ begun.now.history.history }
+    requires there { workspace_of repo.now ws ≡ Some (plain_of workspace.now) }
+    requires closed { is_open (Some (plain_of workspace.now)) ≡ false }
     requires branch { branch < length repo.now.history.branches }
-    requires apart { branch ≢ _workspace.now.branch }
-    requires at { other ≡ head _begun.now.history.history branch }
-    requires plan { IsMergePlan _begun.now.meta _begun.now.history.history (plain_of _workspace.now) other plan.now }
-    ensures decision { IfOk result (λ d. plain_decision d ≡ chosen (merge_buckets _begun.now.meta repo.now.history (plain_of _workspace.now) (head repo.now.history branch)) choices.now (merge_to repo.now ws (plain_of _workspace.now) branch (unwrap_or choices.now []) (head repo.now.history branch))) }
+    requires apart { branch ≢ workspace.now.branch }
+    requires at { other ≡ head begun.now.history.history branch }
+    requires plan { IsMergePlan begun.now.meta begun.now.history.history (plain_of workspace.now) other plan }
+    ensures decision { IfOk result (λ d. plain_decision d ≡ chosen (merge_buckets begun.now.meta repo.now.history (plain_of workspace.now) (head repo.now.history branch)) choices.now (merge_to repo.now ws (plain_of workspace.now) branch (unwrap_or choices.now []) (head repo.now.history branch))) }
     ensures made { IfOk result (λ d. CanMakeIt repo.now d.made) }
 {
     if let Some(refused) = refused_choices(alloc, &plan.buckets, choices)? {
@@ -162,10 +163,13 @@ fn decide_merge_by(
         return tell_number(alloc, other as u64);
     }
     let choices = text_or_empty(alloc, choices)?;
+    let merged = merge_by(
+        alloc, repo, begun, ws, workspace, branch, other, plan, &choices,
+    )?;
     let event = Event::Merge {
         ws,
         branch,
         choices,
     };
-    with_number(alloc, repo, other as u64, event)
+    with_number_foreseen(alloc, repo, other as u64, event, Foreseen::Merge(merged))
 }

@@ -8,6 +8,7 @@ ghost use Rattle.repo_state.specs.Working.{IsWorkingModel};
 ghost use Rattle.repo_answers.specs.Needs.{NeedsNone, creation_without_id, given_id, model_for, with_id};
 ghost use Rattle.script_lang.specs.Spelling.{IsCommand};
 
+use command_facts::{Needs, facts};
 use edits::Edit;
 use model_graph::Graph;
 use repo_state::{Begun, Repo, Workspace};
@@ -20,12 +21,10 @@ use working_model::Working;
 fn model_for(command: &Command) -> Option<u32>
     ensures { result ≡ model_for command.now }
 {
-    match command {
-        Command::Edit { ws, .. } => Some(*ws),
-        Command::Import { ws } => Some(*ws),
-        Command::Show { ws } => Some(*ws),
-        Command::Validate { ws } => Some(*ws),
-        _ => None,
+    let row = facts(command);
+    match row.needs {
+        Needs::Model => row.workspace,
+        Needs::Nothing | Needs::Steps | Needs::Opens | Needs::Shows => None,
     }
 }
 
@@ -48,12 +47,9 @@ pub(crate) fn wanted(repo: &Repo, command: &Command) -> Option<u32>
 pub(crate) fn reads_version(command: &Command) -> bool
     ensures { result ≡ reads_version command.now }
 {
-    match command {
-        Command::Checkout { .. } => true,
-        Command::Cat { .. } => true,
-        Command::Apply { .. } => true,
-        Command::Load { .. } => true,
-        _ => false,
+    match facts(command).needs {
+        Needs::Steps | Needs::Opens | Needs::Shows => true,
+        Needs::Nothing | Needs::Model => false,
     }
 }
 

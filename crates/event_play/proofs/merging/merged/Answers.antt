@@ -6,7 +6,6 @@ use Rattle.merge_laws.specs.Merge.{merge_list}
 use Rattle.merge_laws.specs.Choices.{are_choices, side_of}
 use Rattle.repo_state.specs.Keeping.{plain_of}
 use Rattle.repo_state.proofs.Merges.{cannot_misfit, cannot_nothing, merge_could, merge_is, nothing_left, plan_mine, plan_rows, plan_theirs, something_left}
-use Rattle.event_play.proofs.Putting.{merge_leads}
 use Rattle.event_play.proofs.merging.merged.Goals as goal
 use Rattle.event_play.proofs.merging.merged.Goals.{then-len-eq0-via-then-len-eq0, then-len-eq0-via-else-len-eq0+then-not-are_choices}
 
@@ -31,8 +30,8 @@ returns-then-len-eq0-clause-cannot c =
           ∙ ap (λ (l : List ℕ). are_choices l way.as_slice.result.now) (sym way.as_str.ensures) ∙ sym way.if-not-are_choices.ensures)
     ]
 
-pub returns-clause-could : goal.returns-clause-could
-returns-clause-could c =
+pub merge_by-requires-clause-could : goal.merge_by-requires-clause-could
+merge_by-requires-clause-could c =
     let s = c.args.repo.now in
     let meta = c.in-Some.begun.now.meta in
     let w = plain_of c.in-Some-workspace.workspace.now in
@@ -50,23 +49,3 @@ returns-clause-could c =
     ∙ ap (λ (l : List ℕ). are_choices l c.as_slice.result.now) (sym c.as_str.ensures) ∙ sym c.if-not-are_choices.ensures in
     merge_could s meta c.args.ws c.args.branch c.args.letters.now w begun there (sym c.is_open.ensures.open ∙ c.if-is_open.false)
     (subst (λ (h : History). c.args.branch < length h.branches) (sym hist) low) c.if-branch-workspace.false some fit
-
-pub returns-clause-leads : goal.returns-clause-leads
-returns-clause-leads c =
-    let s = c.args.repo.now in
-    let meta = c.in-Some.begun.now.meta in
-    let w = plain_of c.in-Some-workspace.workspace.now in
-    let begun : s.meta ≡ Some meta = c.in-Some.ensures.meta in
-    let there = sym c.in-Some-workspace.ensures.found in
-    let g = c.in-Some.begun.now.history.history in
-    let hist : s.history ≡ g = c.in-Some.ensures.history in
-    let plan = c.in_ok-plan.plan in
-    let theirs = plan_theirs s.history g w c.args.branch c.head-version.result plan.theirs hist c.head-version.ensures.head c.in_ok-plan.ensures.plan.theirs in
-    let rows = plan_rows meta s.history g w c.args.branch c.head-version.result plan.buckets.rows hist c.head-version.ensures.head
-    c.in_ok-plan.ensures.plan.buckets in
-    let mine = plan_mine meta s.history g w c.args.branch c.head-version.result plan.mine hist c.head-version.ensures.head c.in_ok-plan.ensures.plan.mine in
-    let at = c.head-version.ensures.head ∙ ap (λ (h : History). head h c.args.branch) (sym hist) in
-    let list = c.in_ok-more.ensures.list ∙ ap (λ (l : List ℕ). merge_list plan.theirs plan.mine plan.buckets.rows (map side_of l)) c.as_str-2.ensures in
-    let is = merge_is meta s.history w
-    (head s.history c.args.branch) c.args.letters.now plan.theirs plan.mine c.in_ok-more.more plan.buckets.rows theirs mine rows list in
-    merge_leads s meta c.args.ws c.args.branch c.args.letters.now w c.in_ok-more.more c.head-version.result begun there at is

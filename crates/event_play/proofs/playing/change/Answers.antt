@@ -6,6 +6,7 @@ use Rattle.op_form.specs.declared.event.Event.{Event}
 use Rattle.plain_repository.proofs.Encodings.{evolve_text_shorter, text_shorter}
 use Rattle.plain_repository.specs.State.{State}
 use Rattle.plain_repository.specs.Events.{playable_with}
+use Rattle.event_play.specs.Foreseen.{IsForeseen}
 use Rattle.event_play.specs.Playing.{is_tested_late}
 use Rattle.event_play.proofs.There.{begin_there, branch_there, commit_there, discard_there, drop_there, end_there, signed_there, undo_there}
 use Rattle.event_play.proofs.playing.change.Goals as goal
@@ -60,3 +61,12 @@ pub commit-signed-requires-clause-there : goal.commit-signed-requires-clause-the
 commit-signed-requires-clause-there c =
     signed_there c.args.repo.now c.args.repo.now.meta c.in-Signed.ws c.in-Signed.author c.in-Signed.moment c.in-Signed.message
     (subst (IsTested c.args.repo.now) c.in-Signed.is c.requires.tested)
+
+-- what is foreseen is of the event
+pub update-requires-clause-foreseen : goal.update-requires-clause-foreseen
+update-requires-clause-foreseen c =
+    subst (λ (e : Event). IsForeseen c.args.repo.now e c.args.foreseen) c.in-Update.is c.requires.foreseen
+
+pub merge-requires-clause-foreseen : goal.merge-requires-clause-foreseen
+merge-requires-clause-foreseen c =
+    subst (λ (e : Event). IsForeseen c.args.repo.now e c.args.foreseen) c.in-Merge.is c.requires.foreseen

@@ -2,7 +2,6 @@ use Rattle.std.proofs.Common.{◌≡◌, ◌<◌, length, sym, ◌∙◌, ap, su
 use Rattle.std.specs.Prelude.{IfOk}
 use Rattle.history_tree.specs.History.{History}
 use Rattle.plain_repository.specs.Answers as plain
-use Rattle.plain_repository.specs.Merging.{update_buckets}
 use Rattle.plain_repository.proofs.Reached.{workspaces_stand}
 use Rattle.repo_answers.specs.Decisions.{plain_decision}
 use Rattle.repo_state.specs.Keeping.{plain_of}
@@ -15,11 +14,6 @@ decide_update_of-requires-clause-there c = sym c.in-Some.ensures.found
 
 pub decide_update_of-requires-clause-closed : goal.decide_update_of-requires-clause-closed
 decide_update_of-requires-clause-closed c = sym c.is_open.ensures.open ∙ c.if-is_open.false
-
-pub decide_update_of-requires-clause-rows : goal.decide_update_of-requires-clause-rows
-decide_update_of-requires-clause-rows c =
-    c.in_ok-plan.ensures.plan.buckets
-    ∙ ap (λ (h : History). update_buckets c.args.begun.now.meta h (plain_of c.in-Some.workspace.now)) (sym c.requires.history)
 
 pub decide_update_of-requires-clause-branch : goal.decide_update_of-requires-clause-branch
 decide_update_of-requires-clause-branch c =
