@@ -4,74 +4,22 @@ use Rattle.std.specs.List.{find}
 use Rattle.std.specs.Option.{option_map}
 use Rattle.finite_maps.specs.Equal.{text_eq}
 use Rattle.script_lang.specs.declared.command.Command.{Command}
-use Rattle.script_lang.specs.declared.command.Command.TheVariants as commands
-use Rattle.access_rules.specs.declared.kind.CommandKind.{CommandKind}
-use Rattle.access_rules.specs.declared.kind.CommandKind.TheVariants.{Looks, Works, Keeps}
+use Rattle.command_facts.specs.Facts.{facts}
+use Rattle.command_facts.specs.declared.table.CommandKind.{CommandKind}
+use Rattle.command_facts.specs.declared.table.CommandKind.TheVariants.{Looks, Works, Keeps}
 use Rattle.access_rules.specs.declared.policy.Role.{Role}
 use Rattle.access_rules.specs.declared.policy.Role.TheVariants.{Reader, Writer, Admin}
 use Rattle.access_rules.specs.declared.policy.Grant.{Grant}
 use Rattle.access_rules.specs.declared.access.Access.{Access}
 use Rattle.access_rules.specs.declared.access.Access.TheVariants.{Pass, Denied}
 
--- the table of commands
+-- what a command is for
 abbrev pub command_kind : Command → CommandKind
-command_kind commands.Init = Keeps
-command_kind commands.Evolve = Keeps
-command_kind (commands.Import ws) = Works
-command_kind (commands.Load ws) = Works
-command_kind (commands.Checkout spec) = Looks
-command_kind (commands.Edit ws edit) = Works
-command_kind (commands.Begin ws name) = Works
-command_kind (commands.End ws) = Works
-command_kind (commands.Undo ws) = Works
-command_kind (commands.Discard ws) = Works
-command_kind (commands.Tidy ws) = Works
-command_kind (commands.Apply ws bytes) = Works
-command_kind (commands.Changes ws) = Looks
-command_kind (commands.Show ws) = Looks
-command_kind (commands.Cat spec) = Looks
-command_kind (commands.Validate ws) = Looks
-command_kind (commands.Commit ws message) = Works
-command_kind (commands.Signed ws author moment message) = Works
-command_kind (commands.Branch ws name) = Works
-command_kind (commands.Tag name spec) = Keeps
-command_kind commands.Log = Looks
-command_kind (commands.Package spec) = Looks
-command_kind (commands.Update ws choices) = Works
-command_kind (commands.Merge ws branch choices) = Works
-command_kind (commands.Revert ws version) = Works
-command_kind (commands.Drop ws) = Works
-command_kind commands.Upgrade = Keeps
+command_kind command = (facts command).kind
 
 -- the number of the workspace that a command names, if it names one
 abbrev pub workspace_in : Command → Option ℕ
-workspace_in commands.Init = None
-workspace_in commands.Evolve = None
-workspace_in (commands.Import ws) = Some ws
-workspace_in (commands.Load ws) = Some ws
-workspace_in (commands.Checkout spec) = None
-workspace_in (commands.Edit ws edit) = Some ws
-workspace_in (commands.Begin ws name) = Some ws
-workspace_in (commands.End ws) = Some ws
-workspace_in (commands.Undo ws) = Some ws
-workspace_in (commands.Discard ws) = Some ws
-workspace_in (commands.Tidy ws) = Some ws
-workspace_in (commands.Apply ws bytes) = Some ws
-workspace_in (commands.Changes ws) = Some ws
-workspace_in (commands.Show ws) = Some ws
-workspace_in (commands.Cat spec) = None
-workspace_in (commands.Validate ws) = Some ws
-workspace_in (commands.Commit ws message) = Some ws
-workspace_in (commands.Signed ws author moment message) = Some ws
-workspace_in (commands.Branch ws name) = Some ws
-workspace_in (commands.Tag name spec) = None
-workspace_in commands.Log = None
-workspace_in (commands.Package spec) = None
-workspace_in (commands.Update ws choices) = Some ws
-workspace_in (commands.Merge ws branch choices) = Some ws
-workspace_in (commands.Revert ws version) = Some ws
-workspace_in (commands.Drop ws) = Some ws
-workspace_in commands.Upgrade = None
+workspace_in command = (facts command).workspace
 
 -- does it change a workspace, or make a version or a branch of it
 abbrev pub is_work : CommandKind → Bool

@@ -3,7 +3,8 @@ ghost use Rattle.std.specs.Prelude.{◌≡◌, Some};
 ghost use Rattle.std.specs.Option.{option_copied};
 ghost use Rattle.access_rules.specs.Rule.{role_in, rule_of, rule, denied};
 
-use crate::{CommandKind, Policy, Role, command_kind};
+use crate::{Policy, Role, command_kind};
+use command_facts::CommandKind;
 use script_lang::Command;
 
 /// Whether a user may give a command.
@@ -21,7 +22,7 @@ pub enum Access {
 }
 
 /// The role of a user, who may have none.
-fn role_in<'a>(policy: &'a Policy, user: &str) -> Option<&'a Role>
+pub(crate) fn role_in<'a>(policy: &'a Policy, user: &str) -> Option<&'a Role>
     ensures { option_copied result ≡ role_in policy.now.grants user.now }
 {
     match policy

@@ -8,10 +8,12 @@ mod kind;
 mod laws;
 mod policy;
 mod reading;
+mod turns;
 
 pub use access::{Access, check};
 pub use fault::PolicyFault;
-pub use kind::{CommandKind, command_kind, workspace_in};
+pub use kind::{command_kind, workspace_in};
 pub use laws::law_of_policies;
 pub use policy::{Grant, Policy, Role};
 pub use reading::read_policy;
+pub use turns::own_rule;

@@ -8,6 +8,6 @@ mod showing;
 mod work;
 
 pub use gate::{Gate, Unguarded};
-pub use serving::serve;
+pub use serving::{answer_item, serve};
 pub use showing::show;
 pub use work::{Work, over_store};

@@ -27,7 +27,7 @@ fn refused_so_far(refused: bool, answered: Answered) -> bool
 }
 
 /// Answers an item that gets a reply: by the gate's refusal of its line, or as ever.
-fn answer_item<H: Host, G: Gate>(
+pub fn answer_item<H: Host, G: Gate>(
     alloc: Global,
     host: &mut H,
     session: &mut Session,

@@ -37,7 +37,14 @@ blame trunk <  >  2
 guard bob bob:writer@dev < set 2 b pages 1|set 1 b pages 475|tag t 0|fly| > no 41 Denied 4|ok|no 41 Denied 3|no 1 BadLine 1| 1
 guard ann ann:admin < tag t 0| > ok| 0
 guard ann bob:admin < show 1| > no 41 Denied 0| 1
-guard ann ann:all < show 1| >  2";
+guard ann ann:all < show 1| >  2
+serve ann:all < ann 4|log| >  2
+serve bob:writer@dev,ann:admin < bob 12|tag t 0|fly|ann 8|tag t 0| > no 41 Denied 3|no 1 BadLine 1||ok|| 1
+serve ann:admin < ann 7|load 1|ann 8|tag t 0| > no 44 BadFrame 4 7||ok|| 1
+serve ann:admin < ann 10|load 1|0.|ann 8|tag t 0| > no 44 BadFrame 4 10||ok|| 1
+serve ann:admin < ann 8|tag t 0|ann 4|log > ok|| 8
+serve ann:admin <  4|log| >  8
+serve ann:admin < ann 16777217|log| >  8";
 
 // The file that a script makes.
 fn store(rt: &impl Abort, alloc: Global, script: &[u8]) -> Result<Vec<u8>, Fail> {

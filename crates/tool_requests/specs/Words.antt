@@ -3,16 +3,16 @@ use Rattle.std.specs.Prelude.{◌≡◌, ℕ, ◌-◌, ◌^◌, nat_lt, List, []
 use Rattle.std.specs.Option.{option_and_then}
 use Rattle.model_state.specs.Names.{is_name}
 use Rattle.script_lang.specs.declared.command.Command.{Command}
-use Rattle.script_lang.specs.declared.command.Command.TheVariants as commands
 use Rattle.script_lang.specs.declared.command.Spec.{Spec}
 use Rattle.script_lang.specs.Command.{command_of}
+use Rattle.command_facts.specs.Facts.{facts, version_alone}
 use Rattle.finite_maps.specs.Equal.{text_eq}
 use Rattle.access_rules.specs.declared.policy.Grant.{Grant}
 use Rattle.access_rules.specs.Reading.{grants_of}
 use Rattle.tool_requests.specs.declared.tool.Request.{Request}
 use Rattle.tool_requests.specs.declared.tool.Request.TheVariants.{Replay, Work}
 use Rattle.tool_requests.specs.declared.tool.Tool.{Tool}
-use Rattle.tool_requests.specs.declared.tool.Tool.TheVariants.{Query, Blame, Guard}
+use Rattle.tool_requests.specs.declared.tool.Tool.TheVariants.{Query, Blame, Guard, Serve}
 
 -- ---- SPEC
 -- what was read, where it is a command
@@ -26,33 +26,7 @@ command_in text = if nat_lt (length text) (2 ^ 32 - 1) then if_read (command_of 
 
 -- the version that `cat` is asked for
 abbrev pub shown_by : Command → Option Spec
-shown_by (commands.Cat spec) = Some spec
-shown_by commands.Init = None
-shown_by commands.Evolve = None
-shown_by (commands.Import ws) = None
-shown_by (commands.Load ws) = None
-shown_by (commands.Checkout spec) = None
-shown_by (commands.Edit ws edit) = None
-shown_by (commands.Begin ws name) = None
-shown_by (commands.End ws) = None
-shown_by (commands.Undo ws) = None
-shown_by (commands.Discard ws) = None
-shown_by (commands.Tidy ws) = None
-shown_by (commands.Apply ws bytes) = None
-shown_by (commands.Changes ws) = None
-shown_by (commands.Show ws) = None
-shown_by (commands.Validate ws) = None
-shown_by (commands.Commit ws message) = None
-shown_by (commands.Signed ws author moment message) = None
-shown_by (commands.Branch ws name) = None
-shown_by (commands.Tag name spec) = None
-shown_by commands.Log = None
-shown_by (commands.Package spec) = None
-shown_by (commands.Update ws choices) = None
-shown_by (commands.Merge ws branch choices) = None
-shown_by (commands.Revert ws version) = None
-shown_by (commands.Drop ws) = None
-shown_by commands.Upgrade = None
+shown_by command = version_alone (facts command).needs (facts command).version
 
 -- a word names a version where `cat` and the word are a line that spells a command
 abbrev pub spec_in : List ℕ → Option Spec
@@ -73,7 +47,7 @@ abbrev pub guard_in : List ℕ → List ℕ → Option Tool
 guard_in user text = if is_name user then option_map (λ grants. Guard (record { user = user; policy = record { grants = grants } })) (grants_in text) else None
 
 -- ---- all forms
--- what the words ask of a store that is open: `query SPEC ID CLASS FEATURE`, `blame SPEC ID` or `guard USER POLICY`
+-- what the words ask of a store that is open: `query SPEC ID CLASS FEATURE`, `blame SPEC ID`, `guard USER POLICY` or `serve POLICY`
 abbrev pub tool_in : List (List ℕ) → Option Tool
 tool_in (name ∷ spec ∷ element ∷ class ∷ feature ∷ []) =
     if text_eq name (codes "query") then option_map (λ s. Query s element class feature) (spec_in spec) else None
@@ -81,6 +55,7 @@ tool_in (name ∷ first ∷ second ∷ []) =
     if text_eq name (codes "blame") then option_map (λ s. Blame s second) (spec_in first)
     else if text_eq name (codes "guard") then guard_in first second
     else None
+tool_in (name ∷ text ∷ []) = if text_eq name (codes "serve") then option_map (λ grants. Serve (record { grants = grants })) (grants_in text) else None
 tool_in words = None
 
 -- the words ask for this

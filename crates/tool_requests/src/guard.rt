@@ -51,7 +51,7 @@ fn branch_of(repo: &Repo, ws: u32) -> Option<&str>
 }
 
 /// The name of the branch of the workspace that the command names, where that is there.
-fn branch_at<'a>(repo: &'a Repo, command: &Command) -> Option<&'a str>
+pub(crate) fn branch_at<'a>(repo: &'a Repo, command: &Command) -> Option<&'a str>
     ensures { option_copied result ≡ branch_at repo.now command.now }
 {
     match workspace_in(command) {
@@ -61,7 +61,7 @@ fn branch_at<'a>(repo: &'a Repo, command: &Command) -> Option<&'a str>
 }
 
 /// The reply that names the rule.
-fn denial(alloc: Global, rule: u32) -> Result<Vec<u8>, AllocError>
+pub(crate) fn denial(alloc: Global, rule: u32) -> Result<Vec<u8>, AllocError>
     ensures { IfOk result (λ reply. reply.items ≡ denial rule) }
 {
     let reply = Reply {

@@ -3,8 +3,10 @@
 
 mod guard;
 mod tool;
+mod turn;
 mod words;
 
 pub use guard::Guard;
 pub use tool::{Request, Tool};
+pub use turn::turn_refusal;
 pub use words::request_of;

@@ -1,5 +1,6 @@
 //! What the words of the command line ask for.
 use crate::guard::Guard;
+use access_rules::Policy;
 use script_lang::Spec;
 use texts::Text;
 
@@ -29,4 +30,6 @@ pub enum Tool {
     },
     /// `guard USER POLICY`: the lines of the input are answered, but for those that the policy denies to the user.
     Guard(Guard),
+    /// `serve POLICY`: the turns of the input are answered, each behind a guard of its user.
+    Serve(Policy),
 }

@@ -2,7 +2,7 @@
 ghost use Rattle.std.specs.Prelude.{◌≡◌, [], ◌∷◌, IfOk, map, string_bytes};
 ghost use Rattle.std.specs.Option.{option_map};
 ghost use Rattle.tool_requests.specs.Words.{spec_in, grants_in, guard_in, tool_in, shown_by, Asks};
-ghost use Rattle.tool_requests.specs.declared.tool.Tool.TheVariants.{Query, Blame};
+ghost use Rattle.tool_requests.specs.declared.tool.Tool.TheVariants.{Query, Blame, Serve};
 
 use crate::guard::{Guard, command_in};
 use crate::tool::{Request, Tool};
@@ -96,6 +96,26 @@ fn blame_in(alloc: Global, spec: &str, element: &str) -> Result<Option<Tool>, Al
     Ok(Some(Tool::Blame { spec, element }))
 }
 
+/// `serve POLICY`, by its word after the first.
+fn serve_in(alloc: Global, text: &str) -> Result<Option<Tool>, AllocError>
+    ensures { IfOk result (λ tool. tool ≡ option_map (λ grants. Serve (record { grants = grants })) (grants_in text.now)) }
+{
+    let Some(policy) = policy_in(alloc, text)? else {
+        return Ok(None);
+    };
+    Ok(Some(Tool::Serve(policy)))
+}
+
+/// What a first word and one other ask for, if they are of a form.
+fn serve_named(alloc: Global, name: &str, text: &str) -> Result<Option<Tool>, AllocError>
+    ensures { IfOk result (λ tool. tool ≡ tool_in (name.now ∷ text.now ∷ [])) }
+{
+    match name {
+        "serve" => serve_in(alloc, text),
+        _ => Ok(None),
+    }
+}
+
 /// What a first word and two others ask for, if they are of a form.
 fn pair_in(alloc: Global, name: &str, first: &str, second: &str) -> Result<Option<Tool>, AllocError>
     ensures { IfOk result (λ tool. tool ≡ tool_in (name.now ∷ first.now ∷ second.now ∷ [])) }
@@ -138,6 +158,7 @@ fn tool_of(alloc: Global, words: &[String]) -> Result<Option<Tool>, AllocError>
             feature.as_str(),
         ),
         [name, first, second] => pair_in(alloc, name.as_str(), first.as_str(), second.as_str()),
+        [name, text] => serve_named(alloc, name.as_str(), text.as_str()),
         _ => Ok(None),
     }
 }
@@ -152,7 +173,7 @@ fn request_alone(word: &str) -> Option<Request>
     }
 }
 
-/// What the words ask for: `replay`, `query SPEC ID CLASS FEATURE`, `blame SPEC ID` or `guard USER POLICY`; none where they are
+/// What the words ask for: `replay`, `query SPEC ID CLASS FEATURE`, `blame SPEC ID`, `guard USER POLICY` or `serve POLICY`; none where they are
 /// of no form. A SPEC is a word with which `cat SPEC` is a line that spells a command. A USER is a name, and a POLICY one as
 /// `access_rules` reads it.
 ///

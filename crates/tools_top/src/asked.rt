@@ -15,6 +15,7 @@ use script_lang::{Last, Reply, print_reply};
 use std::alloc::{AllocError, Global};
 use store_runs::{Gate, Work, serve, show};
 use store_session::{Session, Status};
+use store_turns::serve_turns;
 use tool_requests::{Guard, Tool};
 
 /// A guard as a gate.
@@ -97,6 +98,7 @@ impl Work for Asked {
                 }
             }
             Tool::Guard(guard) => serve(alloc, host, session, &Behind { guard }),
+            Tool::Serve(policy) => serve_turns(alloc, host, session, policy),
         }
     }
 

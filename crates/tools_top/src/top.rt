@@ -59,6 +59,8 @@ pub fn tools<H: Host>(alloc: Global, words: &[String], host: &mut H) -> Status
     ensures bad { result ≡ Status.BadWords → AreBad (map string_bytes words.now) }
     ensures words { AreBad (map string_bytes words.now) → (result ≡ Status.BadWords) ⊎ (result ≡ Status.Memory) }
     ensures untouched { result ≡ Status.BadWords → H.told host.new ≡ H.told host.old }
+    // Words that ask for nothing make no call of the host, also where memory ran out.
+    ensures unasked { AreBad (map string_bytes words.now) → H.told host.new ≡ H.told host.old }
     ensures read { result ≡ Status.ReadFault → Rose (H.told host.old).take_faults (H.told host.new).take_faults }
     ensures write { result ≡ Status.WriteFault → Rose (H.told host.old).say_faults (H.told host.new).say_faults }
     ensures disk { result ≡ Status.DiskFault → Rose (H.told host.old).disk_faults (H.told host.new).disk_faults }

@@ -105,6 +105,11 @@ returns-in-Some-Work-clause-words g c = λ bad.
 pub returns-in-Some-Work-clause-untouched : goal.returns-in-Some-Work-clause-untouched
 returns-in-Some-Work-clause-untouched g c = λ is. absurd (c.over_store-status.ensures.words is)
 
+pub returns-in-Some-Work-clause-unasked : goal.returns-in-Some-Work-clause-unasked
+returns-in-Some-Work-clause-unasked g c = λ bad.
+    let asked = asked_here g (goal.at.returns-in-Some-Work-clause-unasked g c).In-Some-Work in
+    absurd (none_asked (map string_bytes c.args.words.now) c.in-Some-Work.tool bad asked)
+
 pub returns-in-Some-Work-clause-damaged : goal.returns-in-Some-Work-clause-damaged
 returns-in-Some-Work-clause-damaged g c = λ other. c.over_store-status.ensures.damaged
 
@@ -169,6 +174,10 @@ returns-in-Some-Replay-clause-bad g c = λ is.
 
 pub returns-in-Some-Replay-clause-words : goal.returns-in-Some-Replay-clause-words
 returns-in-Some-Replay-clause-words g c = λ bad. absurd (bad.1
+    (rw c.in-Some-Replay.field-0-is at (rw c.in-Some-Replay.is at c.in-Ok.ensures)))
+
+pub returns-in-Some-Replay-clause-unasked : goal.returns-in-Some-Replay-clause-unasked
+returns-in-Some-Replay-clause-unasked g c = λ bad. absurd (bad.1
     (rw c.in-Some-Replay.field-0-is at (rw c.in-Some-Replay.is at c.in-Ok.ensures)))
 
 pub returns-in-Some-Replay-clause-untouched : goal.returns-in-Some-Replay-clause-untouched

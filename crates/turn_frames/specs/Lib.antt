@@ -1,0 +1,5 @@
+pub mod Turns
+pub mod Laws
+pub mod Reads
+pub mod Runs
+pub mod Faults
