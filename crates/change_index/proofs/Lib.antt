@@ -4,5 +4,6 @@ pub mod Lists
 pub mod Meeting
 pub mod Picking
 pub mod Sets
+pub mod Staying
 pub mod Tables
 pub mod Tests

@@ -9,6 +9,7 @@ use Rattle.change_index.specs.Written.{wrote}
 use Rattle.change_index.specs.Index.{wrote_in, index_of}
 use Rattle.change_index.proofs.Lists.{upto_last}
 use Rattle.change_index.proofs.Asking.{last_found, last_same, last_one, length-first, wrote_in-first, index_of-push}
+use Rattle.change_index.proofs.Staying.{last_write_stays}
 use Rattle.change_index.proofs.laws.law_of_last_writes.Goals as goal
 
 -- no number of a path is above its version
@@ -39,3 +40,6 @@ returns-clause-one c = last_one
 
 pub returns-clause-found : goal.returns-clause-found
 returns-clause-found c = last_found
+
+pub returns-clause-stays : goal.returns-clause-stays
+returns-clause-stays c = last_write_stays

@@ -1,0 +1,5 @@
+pub mod Tables
+pub mod Behind
+pub mod Keeping
+pub mod Roles
+pub mod Denied

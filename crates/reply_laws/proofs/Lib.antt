@@ -1,0 +1,4 @@
+pub mod Deciding
+pub mod Again
+pub mod Saying
+pub mod Lists
