@@ -1,15 +1,24 @@
 //! The program: `tools` over the file `emfstore.journal` in the working folder and the standard streams.
 #![tactic(auto)]
 
-use file_host::{FileHost, WordsFault, ended, words_of};
+mod program;
+mod road;
+
+use file_host::FileHost;
+use program::program;
+use real_system::{BesideSystem, RealSystem, words_of};
+use road::{Road, road_of};
 use std::process::ExitCode;
-use tools_top::{Status, tools};
 
 fn main(rt: HostRuntime) -> ExitCode {
-    let status = match words_of(&rt) {
-        Ok(words) => tools(rt.alloc(), &words, &mut FileHost::new(&rt)),
-        Err(WordsFault::NotText) => Status::BadWords,
-        Err(WordsFault::Memory) => Status::Memory,
-    };
-    ended(&rt, "emftools", status.code(), status)
+    match road_of(words_of(&rt)) {
+        Road::Store(words) => {
+            let mut host = FileHost::new(rt.alloc(), RealSystem::new(&rt));
+            program(rt.alloc(), words, &mut host)
+        }
+        Road::Beside(words) => {
+            let mut host = FileHost::new(rt.alloc(), BesideSystem::new(&rt));
+            program(rt.alloc(), Ok(words), &mut host)
+        }
+    }
 }
