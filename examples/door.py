@@ -3,7 +3,7 @@ import os
 import sys
 
 sys.path.append(os.path.join(os.path.dirname(os.path.abspath(__file__)), "..", "clients", "python"))
-from emfstore import Refused, Store
+from emfstore import THEIRS, Refused, Store
 
 ECORE = "http://www.eclipse.org/emf/2002/Ecore#//"
 MACHINES = {
@@ -18,8 +18,8 @@ DOOR = {"eClass": "//Machine", "_id": "door", "states": [
     {"_id": "closed", "name": "closed", "next": {"$ref": "open"}}]}
 
 
-def say(*words):
-    print(*words)
+def say(*words, sep=" "):
+    print(*words, sep=sep)
 
 
 def names(roots):
@@ -30,33 +30,36 @@ with Store(sys.argv[1]) as store:
     # Ann brings the metamodel and the door.
     store.init(MACHINES)
     ann = store.checkout("trunk").workspace
-    say("Ann brings in", store.bring_in(ann, DOOR), "elements: version", store.commit(ann, "the door as it is"))
+    say("Ann brings in", ann.bring_in(DOOR), "elements: version", ann.commit("the door as it is"))
 
     # Ben takes them. Both rename a state, and Ben adds one.
     ben = store.checkout("trunk").workspace
-    store.set(ann, "closed", "name", "latched")
-    say("Ann says latched: version", store.commit(ann, "latched"))
-    store.set(ben, "closed", "name", "shut")
-    locked = store.create(ben, "State", "door", "states", "locked")
-    store.set(ben, locked, "name", "locked")
-    store.set(ben, "closed", "next", locked)
+    ann.set("closed", "name", "latched")
+    say("Ann says latched: version", ann.commit("latched"))
+    ben.set("closed", "name", "shut")
+    with ben.composite("lock"):
+        locked = ben.create("State", "door", "states", "locked")
+        ben.set(locked, "name", "locked")
+        ben.set("closed", "next", locked)
 
     # Hers came first, so his commit has to wait for an update.
     try:
-        store.commit(ben, "shut, and it can be locked")
+        ben.commit("shut, and it can be locked")
     except Refused as refused:
         say("Ben's commit is refused:", refused.refusal.name, *refused.refusal.fields)
 
-    def choose(bucket):
-        say("they conflict: operation", *bucket.theirs, "of hers and", *bucket.mine, "of his. He keeps hers")
-        return "t"
+    def choose(conflict):
+        for change in conflict.theirs:
+            say("they conflict:", change)
+        say("He keeps hers")
+        return THEIRS
 
-    say("Ben is at version", store.update(ben, choose), "with", names(store.show(ben)))
-    for line in store.changes(ben):
-        say("   ", line)
-    say("what was in no question stays: version", store.commit(ben, "it can be locked"))
+    say("Ben is at version", ben.update(choose), "with", names(ben.show()))
+    for operation in ben.changes():
+        say(*operation.lines, sep="\n    ")
+    say("what was in no question stays: version", ben.commit("it can be locked"))
 
     # The history has all of it, and each version stays as it was.
     for version in store.log():
         say(version.number, version.message or "the empty project", "with", version.operations, "operations")
-    say("now:", names(store.cat("trunk")), "and before:", names(store.cat("1")))
+    say("now:", names(store.cat("trunk")), "and before:", names(store.cat(1)))
