@@ -168,14 +168,23 @@ final class Blocks {
             gathered.get(gathered.size() - 1).add(piece.getKey());
             blocks.put(piece.getKey(), gathered.size());
         }
-        places.keySet().stream().flatMap(it -> Stream.of(it, it.eContainer())).filter(it -> ids.id(it) == null).forEach(ids::name);
+        Stream<EObject> moved = places.keySet().stream().flatMap(it -> Stream.of(it, it.eContainer()));
+        Stream<EObject> linked = pieces.keySet().stream().filter(this::isLinkedOutside);
+        Stream.concat(moved, linked).filter(it -> ids.id(it) == null).toList().forEach(ids::name);
         return gathered;
+    }
+
+    /** Whether a line is to make a link of the element: one into another block. */
+    private boolean isLinkedOutside(EObject element) {
+        return profile.features(element.eClass()).values().stream().filter(it -> it.kind() == Kind.REFERENCE)
+                .flatMap(it -> ModelText.targets(element, it.reference()).stream())
+                .anyMatch(it -> pieces.containsKey(it) && !isOneBlock(element, it));
     }
 
     private void link(List<String> script) {
         Links links = new Links(profile, ids, lines, script::add);
         links.load(pieces.keySet(), (element, reference) ->
-                ModelText.targets(element, reference).stream().filter(it -> isOneBlock(element, it)).toList());
-        pieces.keySet().forEach(links::sync);
+                ModelText.targets(element, reference).stream().filter(it -> isOneBlock(element, it)).toList(), Map.of());
+        links.syncAll(pieces.keySet());
     }
 }

@@ -5,6 +5,7 @@ import java.util.ArrayList;
 import java.util.LinkedHashMap;
 import java.util.List;
 import java.util.Map;
+import java.util.stream.Collectors;
 
 /** JSON texts: what the program prints, read; and strings as it writes them. */
 final class Json {
@@ -33,20 +34,42 @@ final class Json {
     /** A string in quotes, escaped as the program's own texts are. */
     static String quote(String string) {
         StringBuilder out = new StringBuilder(string.length() + 2).append('"');
+        int plain = 0;
         for (int i = 0; i < string.length(); i++) {
-            char c = string.charAt(i);
-            switch (c) {
-                case '"' -> out.append("\\\"");
-                case '\\' -> out.append("\\\\");
-                case '\b' -> out.append("\\b");
-                case '\f' -> out.append("\\f");
-                case '\n' -> out.append("\\n");
-                case '\r' -> out.append("\\r");
-                case '\t' -> out.append("\\t");
-                default -> out.append(c < ' ' || isAlone(string, i) ? String.format("\\u%04x", (int) c) : String.valueOf(c));
+            String escaped = escaped(string, i);
+            if (escaped != null) {
+                out.append(string, plain, i).append(escaped);
+                plain = i + 1;
             }
         }
-        return out.append('"').toString();
+        return out.append(string, plain, string.length()).append('"').toString();
+    }
+
+    /** What stands for a character of a string, or null where it stands for itself. */
+    private static String escaped(String string, int i) {
+        char c = string.charAt(i);
+        return switch (c) {
+            case '"' -> "\\\"";
+            case '\\' -> "\\\\";
+            case '\b' -> "\\b";
+            case '\f' -> "\\f";
+            case '\n' -> "\\n";
+            case '\r' -> "\\r";
+            case '\t' -> "\\t";
+            default -> c < ' ' || Character.isSurrogate(c) && isAlone(string, i) ? String.format("\\u%04x", (int) c) : null;
+        };
+    }
+
+    /** A value that {@link #read} gave, as a text without spaces. */
+    static String write(Object value) {
+        if (value instanceof Map<?, ?> map) {
+            return map.entrySet().stream().map(it -> quote((String) it.getKey()) + ":" + write(it.getValue()))
+                    .collect(Collectors.joining(",", "{", "}"));
+        }
+        if (value instanceof List<?> list) {
+            return list.stream().map(Json::write).collect(Collectors.joining(",", "[", "]"));
+        }
+        return value instanceof String text ? quote(text) : value instanceof BigDecimal number ? number.toPlainString() : String.valueOf(value);
     }
 
     /** Whether a surrogate stands there without its other half, so that it has no UTF-8. */
@@ -99,10 +122,14 @@ final class Json {
     private String string() {
         take('"');
         StringBuilder out = new StringBuilder();
+        int plain = at;
         for (char c = next(); c != '"'; c = next()) {
-            out.append(c == '\\' ? escaped() : c);
+            if (c == '\\') {
+                out.append(text, plain, at - 1).append(escaped());
+                plain = at;
+            }
         }
-        return out.toString();
+        return out.append(text, plain, at - 1).toString();
     }
 
     private char escaped() {

@@ -26,15 +26,15 @@ final class Lines {
     }
 
     String create(EObject element, EObject parent, EReference containment) {
-        return command("create", profile.name(element.eClass()), place(parent, containment), ids.id(element));
+        return command("create", profile.name(element.eClass()), place(parent, containment), id(element));
     }
 
     String move(EObject element, EObject parent, EReference containment, int index) {
-        return command("move", ids.id(element), place(parent, containment)) + (index == END ? "" : " " + index);
+        return command("move", id(element), place(parent, containment)) + (index == END ? "" : " " + index);
     }
 
     String delete(EObject element) {
-        return command("delete", ids.id(element));
+        return command("delete", id(element));
     }
 
     String set(EObject element, Feature feature, Object value) {
@@ -42,7 +42,7 @@ final class Lines {
     }
 
     String set(EObject element, EReference reference, EObject target) {
-        return at("set", element, reference) + " " + Json.quote(ids.id(target));
+        return at("set", element, reference) + " " + Json.quote(id(target));
     }
 
     String unset(EObject element, EStructuralFeature feature) {
@@ -62,22 +62,31 @@ final class Lines {
     }
 
     String link(EObject element, EReference reference, EObject target, int index) {
-        return at("link", element, reference) + " " + ids.id(target) + (index == END ? "" : " " + index);
+        return at("link", element, reference) + " " + id(target) + (index == END ? "" : " " + index);
     }
 
     String unlink(EObject element, EReference reference, EObject target) {
-        return at("unlink", element, reference) + " " + ids.id(target);
+        return at("unlink", element, reference) + " " + id(target);
     }
 
     String reorder(EObject element, EReference reference, EObject target, int index) {
-        return at("reorder", element, reference) + " " + ids.id(target) + " " + index;
+        return at("reorder", element, reference) + " " + id(target) + " " + index;
+    }
+
+    /** The id of an element that must have one by now. */
+    private String id(EObject element) {
+        String found = ids.id(element);
+        if (found == null) {
+            throw new IllegalStateException("an element without an id: " + element);
+        }
+        return found;
     }
 
     private String at(String command, EObject element, EStructuralFeature feature) {
-        return command(command, ids.id(element), profile.feature(feature).name());
+        return command(command, id(element), profile.feature(feature).name());
     }
 
     private String place(EObject parent, EReference containment) {
-        return parent == null ? "/" : ids.id(parent) + " " + profile.feature(containment).name();
+        return parent == null ? "/" : id(parent) + " " + profile.feature(containment).name();
     }
 }

@@ -3,6 +3,7 @@ package emfstore.client;
 import emfstore.client.Profile.Feature;
 import emfstore.client.Profile.Kind;
 import java.util.ArrayList;
+import java.util.Collection;
 import java.util.HashMap;
 import java.util.HashSet;
 import java.util.IdentityHashMap;
@@ -28,6 +29,7 @@ final class Links {
     private final Map<EObject, Map<EReference, List<EObject>>> stored = new IdentityHashMap<>();
     /** For each target the elements that refer to it, or did; targets outside the store too. */
     private final Map<EObject, Set<EObject>> sources = new WeakHashMap<>();
+    private Map<EObject, Set<EReference>> faulty = Map.of();
 
     Links(Profile profile, Ids ids, Lines lines, Consumer<String> out) {
         this.profile = profile;
@@ -36,16 +38,31 @@ final class Links {
         this.out = out;
     }
 
-    /** Takes those links as stored that a function of the element and the reference gives, and no others. */
-    void load(Iterable<EObject> elements, BiFunction<EObject, EReference, List<EObject>> targets) {
+    /**
+     * Takes those links as stored that a function of the element and the reference gives, and no others.
+     *
+     * @param failing the references that the model can't hold as they are stored: nothing is sent of these
+     */
+    void load(Iterable<EObject> elements, BiFunction<EObject, EReference, List<EObject>> targets, Map<EObject, Set<EReference>> failing) {
         stored.clear();
         sources.clear();
+        faulty = failing;
         for (EObject element : elements) {
             for (EReference reference : references(element)) {
                 ModelText.targets(element, reference).forEach(it -> addSource(it, element));
                 targets.apply(element, reference).forEach(it -> addSource(it, element));
                 list(element, reference).addAll(targets.apply(element, reference));
             }
+        }
+    }
+
+    /** Takes all links of an element as stored that the model has. */
+    void take(EObject element) {
+        for (EReference reference : references(element)) {
+            List<EObject> list = list(element, reference);
+            list.clear();
+            list.addAll(wanted(element, reference));
+            list.forEach(it -> addSource(it, element));
         }
     }
 
@@ -67,14 +84,29 @@ final class Links {
         }
     }
 
+    /** Sends what makes all plain references of all elements those of the model. A line may take away what an earlier one made, so it looks twice. */
+    void syncAll(Collection<EObject> elements) {
+        for (int i = 0; i < 2; i++) {
+            for (EObject element : elements) {
+                references(element).forEach(it -> sync(element, it));
+            }
+        }
+    }
+
     private List<EReference> references(EObject element) {
         return profile.features(element.eClass()).values().stream().filter(it -> it.kind() == Kind.REFERENCE).map(Feature::reference).toList();
     }
 
     /** Sends what makes a plain reference that of the model. Targets outside the store are passed over. */
     void sync(EObject element, EReference reference) {
+        if (faulty.getOrDefault(element, Set.of()).contains(reference)) {
+            return;
+        }
         ModelText.targets(element, reference).forEach(it -> addSource(it, element));
         List<EObject> wanted = wanted(element, reference);
+        if (list(element, reference).equals(wanted)) {
+            return;
+        }
         Set<EObject> kept = new HashSet<>(wanted);
         if (reference.isMany() || wanted.isEmpty()) {
             List.copyOf(list(element, reference)).stream().filter(it -> !kept.contains(it)).forEach(it -> lose(element, reference, it));

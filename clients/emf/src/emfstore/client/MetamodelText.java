@@ -43,7 +43,7 @@ final class MetamodelText {
         boolean isEnum = classifier instanceof EEnum listed && !listed.getELiterals().isEmpty();
         Map<String, String> keys = keys(isEnum ? "EEnum" : "EDataType", profile.name(classifier));
         if (isEnum) {
-            keys.put("eLiterals", list(((EEnum) classifier).getELiterals().stream().map(MetamodelText::literal).toList()));
+            keys.put("eLiterals", list(((EEnum) classifier).getELiterals().stream().map(this::literal).toList()));
         } else if (classifier.getInstanceTypeName() != null) {
             keys.put("instanceTypeName", Json.quote(classifier.getInstanceTypeName()));
         }
@@ -65,10 +65,10 @@ final class MetamodelText {
         return object(keys);
     }
 
-    private static String literal(EEnumLiteral literal) {
+    private String literal(EEnumLiteral literal) {
         Map<String, String> keys = new LinkedHashMap<>();
-        keys.put("name", Json.quote(literal.getName()));
-        if (!literal.getLiteral().equals(literal.getName())) {
+        keys.put("name", Json.quote(profile.name(literal)));
+        if (!literal.getLiteral().equals(profile.name(literal))) {
             keys.put("literal", Json.quote(literal.getLiteral()));
         }
         keys.put("value", String.valueOf(literal.getValue()));

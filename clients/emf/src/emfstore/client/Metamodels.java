@@ -5,6 +5,7 @@ import java.util.ArrayList;
 import java.util.List;
 import java.util.Map;
 import org.eclipse.emf.common.util.URI;
+import org.eclipse.emf.ecore.EClass;
 import org.eclipse.emf.ecore.EObject;
 import org.eclipse.emf.ecore.EPackage;
 import org.eclipse.emf.ecore.EcorePackage;
@@ -13,7 +14,6 @@ import org.eclipse.emf.ecore.resource.ResourceSet;
 import org.eclipse.emf.ecore.resource.impl.ResourceSetImpl;
 import org.eclipse.emf.ecore.xmi.XMLResource;
 import org.eclipse.emf.ecore.xmi.impl.EcoreResourceFactoryImpl;
-import org.eclipse.emf.ecore.xmi.impl.XMIResourceFactoryImpl;
 import org.eclipse.emf.ecore.xmi.impl.XMIResourceImpl;
 import org.eclipse.emf.ecore.xml.type.XMLTypePackage;
 
@@ -63,7 +63,7 @@ public final class Metamodels {
 
     /** An empty resource for a model of these packages, which keeps an id for each element. */
     public XMLResource create(String file) {
-        XMIResourceImpl created = new XMIResourceImpl(URI.createFileURI(new java.io.File(file).getAbsolutePath()));
+        XMIResourceImpl created = new Model(URI.createFileURI(new java.io.File(file).getAbsolutePath()));
         created.setEncoding("UTF-8");
         set.getResources().add(created);
         return created;
@@ -76,12 +76,45 @@ public final class Metamodels {
         found.getESubpackages().forEach(this::register);
     }
 
+    /** A file with a model. EMF would walk all of it for each reference to an element that comes later, to look for an attribute that is an id. */
+    private static final class Model extends XMIResourceImpl {
+        /** How many files were loaded when it was last looked for an id. */
+        private int looked;
+        private boolean hasId;
+
+        Model(URI uri) {
+            super(uri);
+        }
+
+        @Override
+        protected EObject getEObjectByID(String id) {
+            EObject found = getIDToEObjectMap().get(id);
+            boolean isWalked = found == null && (getResourceSet() == null || hasIdAttribute());
+            return isWalked ? super.getEObjectByID(id) : found;
+        }
+
+        /** Whether a class of the metamodels that are loaded by now has such an attribute. */
+        private boolean hasIdAttribute() {
+            if (looked != getResourceSet().getResources().size()) {
+                looked = getResourceSet().getResources().size();
+                hasId = getResourceSet().getResources().stream().flatMap(it -> it.getContents().stream()).filter(EPackage.class::isInstance)
+                        .anyMatch(Metamodels::hasIdAttribute);
+            }
+            return hasId;
+        }
+    }
+
+    private static boolean hasIdAttribute(EObject element) {
+        boolean isInPackage = element instanceof EPackage whole && whole.eContents().stream().anyMatch(Metamodels::hasIdAttribute);
+        return isInPackage || element instanceof EClass owner && owner.getEIDAttribute() != null;
+    }
+
     /** Files, and the packages that EMF has in memory wherever a document names their file. */
     private static final class Files extends ResourceSetImpl {
         Files() {
             Map<String, Object> factories = getResourceFactoryRegistry().getExtensionToFactoryMap();
             factories.put("ecore", new EcoreResourceFactoryImpl());
-            factories.put("*", new XMIResourceFactoryImpl());
+            factories.put("*", (Resource.Factory) Model::new);
         }
 
         @Override

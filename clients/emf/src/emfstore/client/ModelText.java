@@ -106,6 +106,10 @@ final class ModelText {
             return List.of();
         }
         Object held = element.eGet(reference);
-        return reference.isMany() ? ((Collection<EObject>) held).stream().distinct().toList() : held == null ? List.of() : List.of((EObject) held);
+        if (!reference.isMany()) {
+            return held == null ? List.of() : List.of((EObject) held);
+        }
+        Collection<EObject> all = (Collection<EObject>) held;
+        return reference.isUnique() ? List.copyOf(all) : all.stream().distinct().toList();
     }
 }

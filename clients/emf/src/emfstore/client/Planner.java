@@ -5,11 +5,14 @@ import emfstore.client.Profile.Kind;
 import java.util.ArrayDeque;
 import java.util.ArrayList;
 import java.util.Collection;
+import java.util.Collections;
 import java.util.Comparator;
 import java.util.Deque;
 import java.util.HashMap;
+import java.util.IdentityHashMap;
 import java.util.List;
 import java.util.Map;
+import java.util.Set;
 import java.util.stream.Stream;
 import org.eclipse.emf.common.notify.Notification;
 import org.eclipse.emf.ecore.EObject;
@@ -75,9 +78,25 @@ final class Planner {
      */
     List<String> plan(ModelFiller filled) {
         planned.clear();
-        links.load(ids.elements(), filled::targets);
-        ids.elements().forEach(links::sync);
+        links.load(ids.elements(), filled::targets, filled.faulty());
+        links.syncAll(ids.elements());
         return List.copyOf(planned);
+    }
+
+    /** What steps made of the resource is what the store has: its ids, and its links. */
+    void take(StepPlayer played) {
+        for (EObject element : played.removed()) {
+            links.forget(element);
+            ids.remove(element);
+        }
+        played.touched().stream().filter(it -> ids.id(it) != null).forEach(links::take);
+    }
+
+    /** Nothing of the resource is known any more. */
+    void forget() {
+        List.copyOf(ids.elements()).forEach(ids::remove);
+        parentsBefore.clear();
+        idsBefore.clear();
     }
 
     private void planFeature(Notification notification, EObject element, Feature feature) {
@@ -174,26 +193,40 @@ final class Planner {
                 .filter(it -> ModelText.parent(resource, it) == parent && (parent != null || isMove || ids.id(it) == null)).toList();
     }
 
-    /** Where an element stands among the others of its place, but for those still to come. */
-    private int index(EObject element, EObject parent, EReference containment, Collection<EObject> toCome) {
-        List<EObject> place = parent == null ? ModelText.roots(resource) : ModelText.targets(parent, containment);
-        int at = place.indexOf(element);
-        boolean isLast = place.subList(at + 1, place.size()).stream().allMatch(toCome::contains);
-        return isLast ? Lines.END : at;
-    }
-
     /** Brings elements to their places at the root. */
     private void planRoots(List<EObject> elements) {
-        List<EObject> roots = ModelText.roots(resource);
-        planArrivals(elements.stream().sorted(Comparator.comparing(roots::indexOf)).toList(), null, null);
+        if (!elements.isEmpty()) {
+            Map<EObject, Integer> indices = indices(ModelText.roots(resource));
+            planArrivals(elements.stream().sorted(Comparator.comparing(indices::get)).toList(), null, null);
+        }
     }
 
-    /** Brings elements to a place, which has them in this order. */
+    /** Brings elements to a place, which has them in this order. One that no other stands after, but for those still to come, comes last. */
     private void planArrivals(List<EObject> elements, EObject parent, EReference containment) {
-        for (int i = 0; i < elements.size(); i++) {
-            List<EObject> toCome = elements.subList(i + 1, elements.size());
-            planArrival(elements.get(i), parent, containment, index(elements.get(i), parent, containment, toCome));
+        if (elements.isEmpty()) {
+            return;
         }
+        List<EObject> place = parent == null ? ModelText.roots(resource) : ModelText.targets(parent, containment);
+        Map<EObject, Integer> indices = indices(place);
+        Set<EObject> toCome = Collections.newSetFromMap(new IdentityHashMap<>());
+        toCome.addAll(elements);
+        int last = Lines.END;
+        for (EObject other : place) {
+            last = toCome.contains(other) ? last : Math.max(last, indices.get(other));
+        }
+        for (EObject element : elements) {
+            int index = indices.get(element);
+            planArrival(element, parent, containment, index > last ? Lines.END : index);
+            last = Math.max(last, index);
+        }
+    }
+
+    private static Map<EObject, Integer> indices(List<EObject> place) {
+        Map<EObject, Integer> found = new IdentityHashMap<>();
+        for (int i = 0; i < place.size(); i++) {
+            found.put(place.get(i), i);
+        }
+        return found;
     }
 
     private void planArrival(EObject element, EObject parent, EReference containment, int index) {

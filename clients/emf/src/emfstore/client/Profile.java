@@ -13,6 +13,8 @@ import org.eclipse.emf.ecore.EAttribute;
 import org.eclipse.emf.ecore.EClass;
 import org.eclipse.emf.ecore.EClassifier;
 import org.eclipse.emf.ecore.EDataType;
+import org.eclipse.emf.ecore.EEnum;
+import org.eclipse.emf.ecore.EEnumLiteral;
 import org.eclipse.emf.ecore.EPackage;
 import org.eclipse.emf.ecore.EReference;
 import org.eclipse.emf.ecore.EStructuralFeature;
@@ -48,6 +50,7 @@ public final class Profile {
     private final String nsUri;
     private final Map<EClassifier, String> classifiers = new LinkedHashMap<>();
     private final Map<String, EClass> classes = new LinkedHashMap<>();
+    private final Map<EEnumLiteral, String> literals = new HashMap<>();
     private final Map<EStructuralFeature, Feature> features = new HashMap<>();
     private final Map<EClass, Map<String, Feature>> ofClasses = new HashMap<>();
     private final List<String> remarks = new ArrayList<>();
@@ -64,6 +67,11 @@ public final class Profile {
             owner.getEStructuralFeatures().forEach(it -> features.put(it, new Feature(it, nameOf(it, taken.contains(it)), kind(it))));
         }
         classes.values().forEach(it -> ofClasses.put(it, featuresOf(it)));
+    }
+
+    /** The metamodel's document, which is the block of `init` and of `evolve`. */
+    public String metamodel() {
+        return new MetamodelText(this).text();
     }
 
     String name() {
@@ -84,8 +92,13 @@ public final class Profile {
         return classifiers.get(classifier);
     }
 
+    /** The name of a literal. Its text, by which values go, is the literal's own. */
+    String name(EEnumLiteral literal) {
+        return literals.get(literal);
+    }
+
     /** The class of that name, or null. */
-    EClass classNamed(String wanted) {
+    public EClass classNamed(String wanted) {
         return classes.get(wanted);
     }
 
@@ -151,6 +164,24 @@ public final class Profile {
         classifiers.put(classifier, found);
         if (classifier instanceof EClass named) {
             classes.put(found, named);
+        } else if (classifier instanceof EEnum listed) {
+            nameLiterals(listed);
+        }
+    }
+
+    /** Names literals: first those whose own name is one, so that no other takes it. */
+    private void nameLiterals(EEnum listed) {
+        Set<String> taken = new HashSet<>();
+        listed.getELiterals().stream().map(EEnumLiteral::getName).filter(it -> formed(it).equals(it)).forEach(taken::add);
+        for (EEnumLiteral literal : listed.getELiterals()) {
+            String found = formed(literal.getName());
+            if (!found.equals(literal.getName())) {
+                while (!taken.add(found)) {
+                    found = formed(found + "_");
+                }
+                remark(Reach.path(literal), "its name here is " + found);
+            }
+            literals.put(literal, found);
         }
     }
 

@@ -1,7 +1,6 @@
 package emfstore.client;
 
 import java.util.ArrayDeque;
-import java.util.ArrayList;
 import java.util.Collection;
 import java.util.Deque;
 import java.util.HashSet;
@@ -139,6 +138,9 @@ final class Reach {
     }
 
     private void tellReference(EReference reference) {
+        if (Maps.isMap(reference)) {
+            remark(reference, "a map: where two people put one key, an update keeps both entries");
+        }
         if (!reference.getEKeys().isEmpty()) {
             remark(reference, "its eKeys are left out");
         }

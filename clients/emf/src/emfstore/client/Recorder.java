@@ -1,6 +1,6 @@
 package emfstore.client;
 
-import java.util.Arrays;
+import emfstore.client.Profile.Kind;
 import java.util.List;
 import java.util.function.Function;
 import org.eclipse.emf.common.notify.Notification;
@@ -32,105 +32,161 @@ import org.eclipse.emf.ecore.util.EContentAdapter;
  * resource, and the call that changed the resource ends by a {@link RefusedException}. The test's {@code notifications.txt} has an example of each.
  */
 public final class Recorder extends EContentAdapter implements AutoCloseable {
-    /** Operations that conflict, by their numbers: theirs of the new versions, mine as {@code changes} has them. One side is kept. */
-    public record Bucket(int number, List<Integer> theirs, List<Integer> mine) { }
-
-    /** Which side of a bucket is kept. */
-    public enum Choice { MINE, THEIRS }
-
-    private static final int CONFLICTS = 25;
+    /** What becomes of a composite that is open in a workspace which is taken up again. */
+    public enum OpenComposite { END, UNDO }
 
     private final Store store;
+    private final Workspace workspace;
     private final Profile profile;
     private final Resource resource;
     private final Ids ids = new Ids();
-    private final Lines lines;
     private final Planner planner;
     private boolean isPaused;
-    private boolean isComposite;
+    private boolean isUnloaded;
+    private boolean isReloaded;
 
-    private Recorder(Store store, Profile profile, Resource resource, int workspace) {
-        this.store = store;
+    private Recorder(Workspace workspace, Profile profile, Resource resource) {
+        this.workspace = workspace;
         this.profile = profile;
         this.resource = resource;
-        lines = new Lines(workspace, profile, ids);
-        planner = new Planner(profile, resource, ids, lines);
+        store = workspace.store();
+        planner = new Planner(profile, resource, ids, new Lines(workspace.number(), profile, ids));
     }
 
     /**
-     * Makes a new workspace, of the version or branch that the text names, and fills a resource with its model. From then on changes are recorded.
+     * Makes a new workspace, of the version, branch or tag that the text names, and fills a resource with its model. From then on changes are
+     * recorded. What the resource can't hold, as where a setter throws, stands among its errors.
      *
-     * @throws RefusedException where there is no such version or branch
+     * @throws RefusedException where there is no such version, branch or tag
+     * @throws IllegalStateException where the resource is recorded already
+     * @throws IllegalArgumentException where the store has another metamodel than the profile
      */
     public static Recorder checkout(Store store, Profile profile, String version, Resource resource) {
-        Reply reply = store.send("checkout " + version);
-        Recorder recorder = new Recorder(store, profile, resource, reply.number(0));
-        recorder.fill(reply.data().get(0));
-        resource.eAdapters().add(recorder);
-        return recorder;
+        checkFree(resource);
+        return store.alone(() -> {
+            Reply reply = store.send("checkout " + version);
+            Workspace made = new Workspace(store, reply.number(0), reply.number(1));
+            Recorder recorder = new Recorder(made, profile, resource);
+            try {
+                recorder.start(reply.data().get(0));
+            } catch (IllegalArgumentException otherMetamodel) {
+                made.drop();
+                throw otherMetamodel;
+            }
+            return recorder;
+        });
     }
 
     /**
-     * Makes what is recorded a version, and gives its number.
+     * Takes a workspace up again, with all that is recorded in it, and fills a resource with its model. A composite that is open is ended, so that
+     * what it has stays recorded.
      *
-     * @throws RefusedException by 24, Stale, where an update must come before
+     * @throws RefusedException where there is no such workspace
+     * @throws IllegalStateException where the resource is recorded already
+     * @throws IllegalArgumentException where the store has another metamodel than the profile
      */
+    public static Recorder open(Store store, Profile profile, int workspace, Resource resource) {
+        return open(store, profile, workspace, resource, OpenComposite.END);
+    }
+
+    /** The same, with what is to become of a composite that is open: one that a kill has cut off may be half of what it was to be. */
+    public static Recorder open(Store store, Profile profile, int workspace, Resource resource, OpenComposite open) {
+        checkFree(resource);
+        return store.alone(() -> {
+            Workspace found = new Workspace(store, workspace);
+            List<Operation> changes = found.changes();
+            if (found.isComposite()) {
+                found.end();
+                if (open == OpenComposite.UNDO && !changes.get(changes.size() - 1).steps().isEmpty()) {
+                    found.undo();
+                }
+            }
+            Recorder recorder = new Recorder(found, profile, resource);
+            recorder.start(found.show());
+            return recorder;
+        });
+    }
+
+    /** The workspace, with all of its calls. The resource follows each of them. */
+    public Workspace workspace() {
+        return workspace;
+    }
+
+    /** The resource that is recorded. */
+    public Resource resource() {
+        return resource;
+    }
+
+    /** As {@link Workspace#commit}. */
     public int commit(String message) {
-        return store.send(message.isEmpty() ? lines.command("commit") : lines.command("commit", message)).number(0);
+        return workspace.commit(message);
     }
 
-    /**
-     * The same of a store that was upgraded, where a version names its author and a moment: a number, at least 0, that means what a team agrees on.
-     *
-     * @throws RefusedException by 24, Stale, where an update must come before, or 39, OldForm, where the store wasn't upgraded
-     */
+    /** As {@link Workspace#signed}. */
     public int signed(String author, long moment, String message) {
-        String who = author + " " + Long.toUnsignedString(moment);
-        return store.send(lines.command("signed", message.isEmpty() ? who : who + " " + message)).number(0);
+        return workspace.signed(author, moment, message);
     }
 
-    /** Brings workspace and resource to the branch's head, whose number it gives. A side is asked for of each bucket of operations that conflict. */
-    public int update(Function<Bucket, Choice> chooser) {
-        Reply reply = store.ask(lines.command("update"));
-        if (reply.refusal() == CONFLICTS) {
-            StringBuilder letters = new StringBuilder();
-            reply.data().forEach(it -> letters.append(chooser.apply(bucket(it)) == Choice.MINE ? 'm' : 't'));
-            reply = store.send(lines.command("update", letters.toString()));
-        } else if (!reply.isAccepted()) {
-            throw new RefusedException(lines.command("update"), reply);
-        }
-        show();
-        return reply.number(0);
+    /** As {@link Workspace#update(Function)}. */
+    public int update(Function<Conflict, Choice> chooser) {
+        return workspace.update(chooser);
+    }
+
+    /** As {@link Workspace#update(Choice)}. */
+    public int update(Choice all) {
+        return workspace.update(all);
+    }
+
+    /** As {@link Workspace#merge(String, Function)}. */
+    public int merge(String branch, Function<Conflict, Choice> chooser) {
+        return workspace.merge(branch, chooser);
+    }
+
+    /** As {@link Workspace#merge(String, Choice)}. */
+    public int merge(String branch, Choice all) {
+        return workspace.merge(branch, all);
     }
 
     /** Makes the resource what the workspace holds. */
     public void show() {
-        fill(store.send(lines.command("show")).data().get(0));
+        store.alone(() -> fill(workspace.show()));
     }
 
     /**
      * Records all changes of some edits as one operation of that name. Where the edits end by an exception, or one is refused, all are taken back.
+     * Other threads' calls of the store wait.
      *
      * @throws RefusedException where the program takes no such name, or a composite is open
      */
     public void composite(String name, Runnable edits) {
-        begin(name);
-        try {
-            edits.run();
-        } catch (RuntimeException fault) {
-            takeBack();
-            throw fault;
-        }
-        if (!isComposite) {
-            throw new IllegalStateException("a change was refused, and the composite taken back");
-        }
-        end();
-        planner.keep();
+        store.alone(() -> {
+            workspace.begin(name);
+            try {
+                edits.run();
+            } catch (EndedException end) {
+                throw end;
+            } catch (RuntimeException | Error fault) {
+                takeBack();
+                throw fault;
+            }
+            if (!workspace.isComposite()) {
+                throw new IllegalStateException("a change was refused, and the composite taken back");
+            }
+            workspace.end();
+            planner.keep();
+        });
     }
 
     /** The id of an element in the store, or null for one outside. */
     public String id(EObject element) {
         return ids.id(element);
+    }
+
+    /** How many links of the resource the store doesn't have, as their targets are outside of the resource. */
+    public long outside() {
+        return ids.elements().stream().flatMap(it -> profile.features(it.eClass()).values().stream()
+                .filter(feature -> feature.kind() == Kind.REFERENCE).flatMap(feature -> ModelText.targets(it, feature.reference()).stream()))
+                .filter(it -> ids.id(it) == null).count();
     }
 
     /** The text of the resource, byte for byte what {@code show} prints where all is recorded. */
@@ -141,6 +197,7 @@ public final class Recorder extends EContentAdapter implements AutoCloseable {
     /** Ends the recording. The workspace stays, and the resource is as it is. */
     @Override
     public void close() {
+        workspace.follow(steps -> { });
         resource.eAdapters().remove(this);
     }
 
@@ -148,14 +205,91 @@ public final class Recorder extends EContentAdapter implements AutoCloseable {
     public void notifyChanged(Notification notification) {
         super.notifyChanged(notification);
         boolean isChange = notification.getEventType() != Notification.RESOLVE && notification.getEventType() != Notification.REMOVING_ADAPTER;
-        if (isPaused || !isChange) {
-            return;
+        if (!isPaused && isChange && !followsLoading(notification)) {
+            store.alone(() -> record(notification));
         }
+    }
+
+    private void record(Notification notification) {
         try {
             send(planner.plan(notification));
         } catch (RefusedException | IllegalArgumentException refused) {
             takeBack();
             throw refused;
+        }
+    }
+
+    private static void checkFree(Resource resource) {
+        if (resource.eAdapters().stream().anyMatch(Recorder.class::isInstance)) {
+            throw new IllegalStateException("the resource is recorded already: close that Recorder before");
+        }
+    }
+
+    private void start(String text) {
+        fill(text);
+        resource.eAdapters().add(this);
+        workspace.follow(this::follow);
+    }
+
+    /**
+     * Follows the unloading and reloading of the resource, and says whether the notification is of these or after them, and so no edit. EMF says that
+     * a resource isn't loaded before it clears the contents. Once it is loaded again it gets the workspace's model in place of what was loaded.
+     */
+    private boolean followsLoading(Notification notification) {
+        if (notification.getNotifier() != resource) {
+            return isUnloaded;
+        }
+        int feature = notification.getFeatureID(Resource.class);
+        if (feature == Resource.RESOURCE__IS_LOADED) {
+            if (!resource.isLoaded()) {
+                unload();
+            } else if (isUnloaded && (isReloaded || resource.getContents().isEmpty())) {
+                reload();
+            }
+        } else if (feature == Resource.RESOURCE__CONTENTS && !resource.isLoaded()) {
+            unload();
+        } else if (feature == Resource.RESOURCE__CONTENTS && isUnloaded) {
+            isReloaded |= ((Resource.Internal) resource).isLoading();
+            if (!isReloaded) {
+                reload();
+                throw new IllegalArgumentException("the resource was unloaded: it has the workspace's model again, without this change");
+            }
+        }
+        return isUnloaded || feature != Resource.RESOURCE__CONTENTS;
+    }
+
+    private void unload() {
+        isUnloaded = true;
+        isReloaded = false;
+        planner.forget();
+    }
+
+    private void reload() {
+        isUnloaded = false;
+        show();
+    }
+
+    /** Makes the resource follow a call that changed the workspace's model. */
+    private void follow(List<Step> steps) {
+        if (isUnloaded) {
+            return;
+        }
+        if (steps == null || !isPlayed(steps)) {
+            show();
+        }
+    }
+
+    private boolean isPlayed(List<Step> steps) {
+        StepPlayer player = new StepPlayer(profile, ids);
+        isPaused = true;
+        try {
+            boolean isPlayed = player.play(steps);
+            if (isPlayed) {
+                planner.take(player);
+            }
+            return isPlayed;
+        } finally {
+            isPaused = false;
         }
     }
 
@@ -170,49 +304,29 @@ public final class Recorder extends EContentAdapter implements AutoCloseable {
     }
 
     private void send(List<String> commands) {
-        boolean isOwn = commands.size() > 1 && !isComposite;
+        boolean isOwn = commands.size() > 1 && !workspace.isComposite();
         if (isOwn) {
-            begin("change");
+            workspace.begin("change");
         }
         commands.forEach(store::send);
         if (isOwn) {
-            end();
+            workspace.end();
         }
-        if (!isComposite) {
+        if (!workspace.isComposite()) {
             planner.keep();
         }
     }
 
-    private void begin(String name) {
-        store.send(lines.command("begin", name));
-        isComposite = true;
-    }
-
-    private void end() {
-        store.send(lines.command("end"));
-        isComposite = false;
-    }
-
     /** Takes the open composite back, if there is one, and makes the resource what the workspace holds then. */
     private void takeBack() {
-        if (isComposite) {
-            List<String> changes = store.send(lines.command("changes")).data();
-            end();
-            if (changes.get(changes.size() - 1).startsWith(" ")) {
-                store.send(lines.command("undo"));
+        if (workspace.isComposite()) {
+            List<Operation> changes = workspace.changes();
+            workspace.end();
+            if (!changes.get(changes.size() - 1).steps().isEmpty()) {
+                store.send("undo " + workspace.number());
             }
         }
         planner.takeBack();
         show();
-    }
-
-    /** The bucket of a line {@code bucket N theirs LIST mine LIST}. */
-    private static Bucket bucket(String line) {
-        String[] words = line.split(" ");
-        return new Bucket(Integer.parseInt(words[1]), numbers(words[3]), numbers(words[5]));
-    }
-
-    private static List<Integer> numbers(String list) {
-        return Arrays.stream(list.split(",")).map(Integer::valueOf).toList();
     }
 }

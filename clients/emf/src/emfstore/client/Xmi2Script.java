@@ -45,6 +45,31 @@ final class Xmi2Script {
         }
     }
 
+    /**
+     * Sends a script to a workspace in which nothing is recorded, and gives the number of elements. Where a line is refused nothing is recorded then.
+     *
+     * @throws RefusedException of the first line that is refused
+     * @throws IllegalStateException where something is recorded
+     */
+    static int send(List<String> script, Workspace workspace) {
+        if (!workspace.changes().isEmpty()) {
+            throw new IllegalStateException("workspace " + workspace.number() + " has something recorded: commit or discard it before");
+        }
+        int count = 0;
+        try {
+            for (int i = 0; i < script.size(); i++) {
+                boolean isBlock = i + 1 < script.size() && script.get(i).startsWith("import ");
+                Reply reply = isBlock ? workspace.store().send(script.get(i), script.get(i + 1)) : workspace.store().send(script.get(i));
+                count += isBlock ? reply.number(0) : 0;
+                i += isBlock ? 2 : 0;
+            }
+            return count;
+        } catch (RefusedException refused) {
+            workspace.discard();
+            throw refused;
+        }
+    }
+
     /** What isn't carried, with how often it comes. */
     List<String> remarks() {
         return remarks.entrySet().stream().map(it -> it.getKey() + (it.getValue() == 1 ? "" : " (" + it.getValue() + " times)")).toList();
@@ -62,8 +87,10 @@ final class Xmi2Script {
 
     private void nameOwn(EObject element) {
         String own = Ids.own(element);
-        if (Ids.isId(own)) {
+        if (Ids.isId(own) && ids.element(own) == null) {
             ids.put(element, own);
+        } else if (Ids.isId(own)) {
+            remark("an id that an earlier element has is replaced");
         } else if (own != null) {
             remark("an id that the program doesn't take is replaced");
         }

@@ -1,6 +1,5 @@
 package emfstore.client;
 
-import emfstore.client.Recorder.Choice;
 import java.io.IOException;
 import java.io.InputStream;
 import java.io.OutputStream;
@@ -9,7 +8,6 @@ import java.nio.file.Path;
 import java.util.List;
 import java.util.Map;
 import java.util.Random;
-import org.eclipse.emf.common.util.EList;
 import org.eclipse.emf.common.util.TreeIterator;
 import org.eclipse.emf.ecore.EClass;
 import org.eclipse.emf.ecore.EObject;
@@ -18,7 +16,7 @@ import org.eclipse.emf.ecore.util.EcoreUtil;
 import org.eclipse.emf.ecore.xmi.XMLResource;
 
 /** Runs the tools and the Recorder against the built program: on EMF's own metamodels, on models of them, and on a metamodel of all kinds. */
-public final class ClientsTest {
+final class ClientsTest extends Fixture {
     private static final List<String> OF_EMF = List.of("Ecore", "XMLType", "XMLNamespace", "Change", "ExtendedMetaData", "EcoreAnnotation",
             "DateConversionDelegateAnnotation");
     private static final int EDITS = 2_000;
@@ -26,7 +24,6 @@ public final class ClientsTest {
     private static final int EDITS_A_COMPOSITE = 10;
     private static final int EDITS_A_ROUND = 15;
     private static final int ROUNDS = 40;
-    private static final int NOTHING_LOCAL = 23;
     private static final int UNSIGNED = 40;
     /** As many elements as there may be: few in the first half of the edits, so that their lists are long, and then many. */
     private static final int FEW = 20;
@@ -35,28 +32,19 @@ public final class ClientsTest {
     /** Limits by which a model of that size makes many blocks. */
     private static final Blocks.Limits SMALL = new Blocks.Limits(6_000, 100_000, 160, 3);
 
-    private final Path program;
-    private final Path folder;
-    private final String kinds;
-    private int stores;
-
-    private ClientsTest(Path program, Path folder, Path tests) {
-        this.program = program;
-        this.folder = folder;
-        kinds = tests.resolve("kinds.ecore").toString();
+    ClientsTest(Path program, Path folder, Path tests) {
+        super(program, folder, tests);
     }
 
-    /** The words: the built program, an empty folder, and the folder of the tests. */
-    public static void main(String[] words) throws IOException {
-        ClientsTest test = new ClientsTest(Path.of(words[0]), Path.of(words[1]), Path.of(words[2]));
-        test.metamodels();
-        test.remarks();
-        test.models();
-        test.notifications();
-        test.edits();
-        test.conflicts();
-        test.twoPeople();
-        test.refusals();
+    void run() throws IOException {
+        metamodels();
+        remarks();
+        models();
+        notifications();
+        edits();
+        conflicts();
+        twoPeople();
+        refusals();
     }
 
     /** Each of EMF's metamodels is one of the program, and what it hasn't is named. */
@@ -83,24 +71,6 @@ public final class ClientsTest {
             store.send("checkout 0");
             check(send(store, script) == 3, "odd.xmi has another number of elements");
         }
-    }
-
-    private String beside(String name) {
-        return Path.of(kinds).resolveSibling(name).toString();
-    }
-
-    /** Sends the lines of a script, and gives the number of elements in its last block. */
-    private static int send(Store store, List<String> script) {
-        int count = 0;
-        for (int i = 0; i < script.size(); i++) {
-            if (script.get(i).startsWith("import ")) {
-                count = store.send(script.get(i), script.get(i + 1)).number(0);
-                i += 2;
-            } else {
-                store.send(script.get(i));
-            }
-        }
-        return count;
     }
 
     /** Models go in and come out equal, also in many blocks. */
@@ -218,13 +188,16 @@ public final class ClientsTest {
             ann.commit("a door");
             Recorder ben = Recorder.checkout(store, profile, "trunk", ofBen);
             for (Choice choice : Choice.values()) {
+                String before = (String) get(ofAnn.getContents().get(0), "name");
                 set(ofAnn.getContents().get(0), "name", "Ann's, " + choice);
                 ann.commit("hers");
                 set(ofBen.getContents().get(0), "name", "Ben's, " + choice);
                 ofBen.getContents().add(create(profile, "Node", "his own"));
                 checkRefused(24, () -> ben.commit("his"));
-                ben.update(bucket -> {
-                    check(bucket.equals(new Recorder.Bucket(1, List.of(1), List.of(1))), "another bucket: " + bucket);
+                ben.update(conflict -> {
+                    Conflict.Change wanted = new Conflict.Change(ben.id(ofBen.getContents().get(0)), "Ben's, " + choice, "Ben's, " + choice, "name",
+                            Json.quote(before), Json.quote("Ann's, " + choice), Json.quote("Ben's, " + choice));
+                    check(conflict.number() == 1 && conflict.changes().equals(List.of(wanted)), "another conflict: " + conflict);
                     return choice;
                 });
                 String kept = choice == Choice.MINE ? "Ben's, " : "Ann's, ";
@@ -287,15 +260,6 @@ public final class ClientsTest {
         edits.putBack();
     }
 
-    /** Commits, where anything is recorded. */
-    private static void commit(Recorder recorder, String message) {
-        try {
-            recorder.commit(message);
-        } catch (RefusedException refusal) {
-            check(refusal.reply().refusal() == NOTHING_LOCAL, "refused otherwise: " + refusal.getMessage());
-        }
-    }
-
     /** Where a change is refused all of it is taken back, in the store and in the resource, and each element stays the object that it was. */
     private void refusals() throws IOException {
         Metamodels metamodels = new Metamodels(List.of(kinds));
@@ -329,39 +293,6 @@ public final class ClientsTest {
         }
     }
 
-    /** Checks that the edit is refused by that number, or for 0 before it is sent. */
-    private static void checkRefused(int number, Runnable edit) {
-        try {
-            edit.run();
-        } catch (RefusedException refusal) {
-            check(refusal.reply().refusal() == number, "refused otherwise: " + refusal.getMessage());
-            return;
-        } catch (IllegalArgumentException refusal) {
-            check(number == 0, "refused otherwise: " + refusal.getMessage());
-            return;
-        }
-        throw new AssertionError("not refused by " + number);
-    }
-
-    private static EObject create(Profile profile, String owner, String name) {
-        EObject created = EcoreUtil.create(profile.classNamed(owner));
-        set(created, "name", name);
-        return created;
-    }
-
-    private static void set(EObject element, String feature, Object value) {
-        element.eSet(element.eClass().getEStructuralFeature(feature), value);
-    }
-
-    private static Object get(EObject element, String feature) {
-        return element.eGet(element.eClass().getEStructuralFeature(feature));
-    }
-
-    @SuppressWarnings("unchecked")
-    private static EList<EObject> list(EObject element, String feature) {
-        return (EList<EObject>) get(element, feature);
-    }
-
     private void checkShown(Store store, Recorder recorder, Profile profile, XMLResource live, String when) throws IOException {
         String text = store.send("show 1").data().get(0);
         check(recorder.text().equals(text), when + " the program shows another model");
@@ -372,16 +303,6 @@ public final class ClientsTest {
         XMLResource second = new Metamodels(List.of(kinds)).create("second.xmi");
         ModelFiller.fill(second, profile, new Ids(), text);
         checkEqual(live, second, when);
-    }
-
-    private static void checkEqual(Resource first, Resource second, String where) {
-        check(EcoreUtil.equals(ModelText.roots(first), ModelText.roots(second)), where + ": the models differ");
-        TreeIterator<EObject> others = EcoreUtil.getAllContents(ModelText.roots(second));
-        for (TreeIterator<EObject> all = EcoreUtil.getAllContents(ModelText.roots(first)); all.hasNext(); ) {
-            String id = Ids.own(all.next());
-            String other = Ids.own(others.next());
-            check(id == null || id.equals(other), where + ": the id " + id + " is " + other);
-        }
     }
 
     private static List<EClass> classes(Profile profile, Metamodels metamodels) {
@@ -401,10 +322,6 @@ public final class ClientsTest {
         return count[0];
     }
 
-    private static Profile profile(String ecore) throws IOException {
-        return new Profile(new Metamodels(List.of(ecore)).packages());
-    }
-
     /** A file with one of EMF's own metamodels, out of its libraries. */
     private String ofEmf(String name) throws IOException {
         Path file = folder.resolve(name + ".ecore");
@@ -416,25 +333,4 @@ public final class ClientsTest {
         return file.toString();
     }
 
-    /** The program over a new store, with a metamodel. */
-    private Store start(Profile profile) throws IOException {
-        return start(program, profile);
-    }
-
-    private Store start(Path started, Profile profile) throws IOException {
-        Path place = Files.createDirectory(folder.resolve("store" + ++stores));
-        Store store = new Store(started, place);
-        store.send("init", new MetamodelText(profile).text());
-        return store;
-    }
-
-    private static void check(boolean holds, String otherwise) {
-        if (!holds) {
-            throw new AssertionError(otherwise);
-        }
-    }
-
-    private static void tell(String what) {
-        System.out.println(what);
-    }
 }
